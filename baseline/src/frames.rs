@@ -1,0 +1,214 @@
+//! "Frames": digits, fields, check byte, the faults of a line, and the reading
+//! of one forcing line.
+
+use crate::{Answer, Forcing};
+
+/// The longest line, a node's: 72 digits and its line feed.
+const LONGEST_LINE: usize = 73;
+
+/// The bytes of the longest frame.
+const LONGEST_FRAME: usize = 36;
+
+/// The one pattern that every NaN is read and written as.
+const NAN_PATTERN: u64 = 0x7FF8_0000_0000_0000;
+
+/// "Upper-case hexadecimal".
+const DIGITS: &[u8; 16] = b"0123456789ABCDEF";
+
+/// A kind of line: its kind byte and how many digits it has.
+#[derive(Clone, Copy)]
+pub(crate) struct Kind {
+    byte: u8,
+    digits: usize,
+}
+
+/// "01 head, sequence 0: N (2), E (2), step (4), Wx, Wy. 56 digits."
+pub(crate) const HEAD: Kind = Kind {
+    byte: 0x01,
+    digits: 56,
+};
+
+/// "02 node i, sequence i+1: earlier z, z, U, V. 72 digits."
+pub(crate) const NODE: Kind = Kind {
+    byte: 0x02,
+    digits: 72,
+};
+
+/// "03 end, sequence N+1: N (2). 12 digits."
+pub(crate) const END: Kind = Kind {
+    byte: 0x03,
+    digits: 12,
+};
+
+/// "10 forcing, its own sequence from 0 to 65,535: elevation, Wx', Wy'. 56
+/// digits."
+pub(crate) const FORCING: Kind = Kind {
+    byte: 0x10,
+    digits: 56,
+};
+
+impl Kind {
+    /// The bytes of a line of this kind: its digits, "ended by a line feed".
+    pub fn line_length(self) -> usize {
+        self.digits + 1
+    }
+}
+
+/// "One line is held with its length while it is built." The sum of its frame
+/// bytes is held beside them, for the check byte.
+pub(crate) struct Line {
+    bytes: [u8; LONGEST_LINE],
+    length: usize,
+    sum: u8,
+}
+
+impl Line {
+    /// A line's "kind byte, two-byte sequence".
+    pub fn begin(kind: Kind, sequence: u16) -> Line {
+        let empty = Line {
+            bytes: [0; LONGEST_LINE],
+            length: 0,
+            sum: 0,
+        };
+        empty.frame_byte(kind.byte).two_bytes(sequence)
+    }
+
+    /// "Numbers are big-endian".
+    pub fn two_bytes(self, number: u16) -> Line {
+        self.frame_bytes(&number.to_be_bytes())
+    }
+
+    /// "Numbers are big-endian".
+    pub fn four_bytes(self, number: u32) -> Line {
+        self.frame_bytes(&number.to_be_bytes())
+    }
+
+    /// "floats are their 8-byte patterns".
+    pub fn float(self, value: f64) -> Line {
+        let pattern = if value.is_nan() {
+            NAN_PATTERN
+        } else {
+            value.to_bits()
+        };
+        self.frame_bytes(&pattern.to_be_bytes())
+    }
+
+    /// The check byte and the line feed: "All frame bytes sum to 0 modulo 256."
+    pub fn end(self) -> Line {
+        let check = self.sum.wrapping_neg();
+        self.frame_byte(check).push(b'\n')
+    }
+
+    pub fn as_bytes(&self) -> &[u8] {
+        self.bytes.get(..self.length).unwrap_or(&self.bytes)
+    }
+
+    fn frame_bytes(self, bytes: &[u8]) -> Line {
+        bytes.iter().fold(self, |line, &byte| line.frame_byte(byte))
+    }
+
+    fn frame_byte(mut self, byte: u8) -> Line {
+        self.sum = self.sum.wrapping_add(byte);
+        self.push(DIGITS[usize::from(byte >> 4)])
+            .push(DIGITS[usize::from(byte & 0x0F)])
+    }
+
+    /// No kind of line is longer than the room, so that no byte is dropped.
+    fn push(mut self, byte: u8) -> Line {
+        if let Some(place) = self.bytes.get_mut(self.length) {
+            *place = byte;
+            self.length += 1;
+        }
+        self
+    }
+}
+
+/// The bytes of a frame that was read without a fault.
+pub(crate) struct Frame {
+    bytes: [u8; LONGEST_FRAME],
+}
+
+impl Frame {
+    /// Reads one line of the kind and sequence that are due, or answers its
+    /// fault: "20, 21, 22".
+    ///
+    /// 20: "line of wrong length, wrong digit, no line feed". 21: "check byte".
+    /// 22: "kind or sequence".
+    pub fn read(line: &[u8], kind: Kind, sequence: u32) -> Result<Frame, u32> {
+        let Some((b'\n', digits)) = line.split_last() else {
+            return Err(20);
+        };
+        if digits.len() != kind.digits {
+            return Err(20);
+        }
+        let mut bytes = [0; LONGEST_FRAME];
+        let (pairs, _) = digits.as_chunks::<2>();
+        for (byte, &[high, low]) in bytes.iter_mut().zip(pairs) {
+            *byte = 16 * digit(high).ok_or(20u32)? + digit(low).ok_or(20u32)?;
+        }
+        if bytes.iter().fold(0u8, |sum, &byte| sum.wrapping_add(byte)) != 0 {
+            return Err(21);
+        }
+        let frame = Frame { bytes };
+        if bytes[0] != kind.byte || u32::from(frame.two_bytes(1)) != sequence {
+            return Err(22);
+        }
+        Ok(frame)
+    }
+
+    /// The two-byte number that begins at a frame byte.
+    pub fn two_bytes(&self, at: usize) -> u16 {
+        u16::from_be_bytes(self.bytes_at(at))
+    }
+
+    /// The four-byte number that begins at a frame byte.
+    pub fn four_bytes(&self, at: usize) -> u32 {
+        u32::from_be_bytes(self.bytes_at(at))
+    }
+
+    /// The float whose pattern begins at a frame byte.
+    pub fn float(&self, at: usize) -> f64 {
+        let value = f64::from_bits(u64::from_be_bytes(self.bytes_at(at)));
+        if value.is_nan() {
+            f64::from_bits(NAN_PATTERN)
+        } else {
+            value
+        }
+    }
+
+    fn bytes_at<const COUNT: usize>(&self, at: usize) -> [u8; COUNT] {
+        let mut field = [0; COUNT];
+        for (place, &byte) in field.iter_mut().zip(self.bytes.iter().skip(at)) {
+            *place = byte;
+        }
+        field
+    }
+}
+
+/// What an upper-case hexadecimal digit stands for.
+fn digit(byte: u8) -> Option<u8> {
+    match byte {
+        b'0'..=b'9' => Some(byte - b'0'),
+        b'A'..=b'F' => Some(byte - b'A' + 10),
+        _ => None,
+    }
+}
+
+/// "Reading one forcing line against an expected sequence number gives 20, 21,
+/// 22, at place 0, and a refused one hands back a forcing of three +0."
+///
+/// The whole slice is the line with its line feed. A sequence number above
+/// 65,535 is met by no line.
+pub fn read_forcing(line: &[u8], expected: u32) -> (Answer, Forcing) {
+    match Frame::read(line, FORCING, expected) {
+        Ok(frame) => {
+            let forcing = Forcing {
+                elevation: frame.float(3),
+                wx: frame.float(11),
+                wy: frame.float(19),
+            };
+            (Answer::accepted(0), forcing)
+        }
+        Err(number) => (Answer::refused(number, 0), Forcing::ZERO),
+    }
+}

@@ -1,0 +1,424 @@
+//! Rows 10 to 13, "Elevation" and "Velocity", and the step itself.
+
+use crate::mesh::{Lent, Mesh, Triangle};
+use crate::{in_size, Answer, Clock, Forcing, Parameters};
+
+/// "g is the binary64 nearest 9.81".
+const G: f64 = 9.81;
+
+/// Rows 10, 12 and 13: an elevation is not beyond this in size.
+const HIGHEST: f64 = 30.0;
+
+/// Rows 10 and 13: a water column is not below this.
+const SHALLOWEST: f64 = 0.1;
+
+/// Rows 10 and 13: a velocity is not beyond this in size.
+const FASTEST: f64 = 20.0;
+
+/// Row 12: a wind is not beyond this in size.
+const STRONGEST: f64 = 0.1;
+
+/// "kind 0 (free), 1 (open), 2 (held land)".
+const OPEN: u8 = 1;
+const HELD_LAND: u8 = 2;
+
+/// "The state is 4N numbers in four runs of N: earlier elevation, present
+/// elevation z, U, V."
+pub(crate) struct State<'a> {
+    pub earlier: &'a [f64],
+    pub z: &'a [f64],
+    pub u: &'a [f64],
+    pub v: &'a [f64],
+}
+
+impl<'a> State<'a> {
+    pub fn of(numbers: &'a [f64]) -> State<'a> {
+        let n = numbers.len() / 4;
+        let (earlier, rest) = numbers.split_at(n);
+        let (z, rest) = rest.split_at(n);
+        let (u, v) = rest.split_at(n);
+        State { earlier, z, u, v }
+    }
+}
+
+/// Whether a water column is not "below 0.1"; a NaN is.
+fn deep_enough(column: f64) -> bool {
+    column >= SHALLOWEST
+}
+
+/// 10: "either z beyond 30 in size, present h+z below 0.1, U or V beyond 20".
+pub(crate) fn row_10(mesh: &Mesh, state: &State) -> Result<(), Answer> {
+    for (node, &h) in mesh.h.iter().enumerate() {
+        let z = state.z[node];
+        let holds = in_size(state.earlier[node], HIGHEST)
+            && in_size(z, HIGHEST)
+            && deep_enough(h + z)
+            && in_size(state.u[node], FASTEST)
+            && in_size(state.v[node], FASTEST);
+        if !holds {
+            return Err(Answer::refused(10, node));
+        }
+    }
+    Ok(())
+}
+
+/// 11: "step number is 4,294,967,295".
+fn row_11(clock: Clock) -> Result<(), Answer> {
+    if clock.step == 4_294_967_295 {
+        return Err(Answer::refused(11, 0));
+    }
+    Ok(())
+}
+
+/// 12, place 0: "held wind beyond 0.1".
+pub(crate) fn row_12_held_wind(clock: Clock) -> Result<(), Answer> {
+    if !in_size(clock.wx, STRONGEST) || !in_size(clock.wy, STRONGEST) {
+        return Err(Answer::refused(12, 0));
+    }
+    Ok(())
+}
+
+/// 12, places 1 to 3: "forcing elevation beyond 30; Wx', Wy' beyond 0.1".
+fn row_12_forcing(forcing: Forcing) -> Result<(), Answer> {
+    if !in_size(forcing.elevation, HIGHEST) {
+        return Err(Answer::refused(12, 1));
+    }
+    if !in_size(forcing.wx, STRONGEST) {
+        return Err(Answer::refused(12, 2));
+    }
+    if !in_size(forcing.wy, STRONGEST) {
+        return Err(Answer::refused(12, 3));
+    }
+    Ok(())
+}
+
+/// "a mean is ((v1+v2)+v3)/3".
+fn mean(v: [f64; 3]) -> f64 {
+    ((v[0] + v[1]) + v[2]) / 3.0
+}
+
+/// A gradient's sum, (v1·w1 + v2·w2) + v3·w3, w being b for x and a for y.
+fn gradient(v: [f64; 3], w: [f64; 3]) -> f64 {
+    (v[0] * w[0] + v[1] * w[1]) + v[2] * w[2]
+}
+
+/// One operation on two numbers, at each of the three corners.
+fn at_corners(v: [f64; 3], w: [f64; 3], operation: fn(f64, f64) -> f64) -> [f64; 3] {
+    [
+        operation(v[0], w[0]),
+        operation(v[1], w[1]),
+        operation(v[2], w[2]),
+    ]
+}
+
+fn plus(v: f64, w: f64) -> f64 {
+    v + w
+}
+
+fn minus(v: f64, w: f64) -> f64 {
+    v - w
+}
+
+fn times(v: f64, w: f64) -> f64 {
+    v * w
+}
+
+/// "The gradients and means of one triangle travel together as one record":
+/// "hb, Ub, Vb, Z, Qx, Qy: means of h, U, V, z*, qx, qy" and Gx, Gy, Sx, Sy.
+struct Record {
+    hb: f64,
+    ub: f64,
+    vb: f64,
+    z: f64,
+    qx: f64,
+    qy: f64,
+    gx: f64,
+    gy: f64,
+    sx: f64,
+    sy: f64,
+}
+
+impl Record {
+    /// "For each triangle, zi* = z minus earlier z, Hi = hi+zi, qxi = Ui·Hi,
+    /// qyi = Vi·Hi". "Gx = (z1·b1 + z2·b2) + z3·b3, and Gy with a. Sx =
+    /// ((z1·z1)·b1 + (z2·z2)·b2) + (z3·z3)·b3, and Sy with a."
+    fn of(triangle: &Triangle, mesh: &Mesh, state: &State) -> Record {
+        let (a, b) = (triangle.a_floats(), triangle.b_floats());
+        let corners = |run: &[f64]| triangle.corners.map(|node| run[node]);
+        let (h, z) = (corners(mesh.h), corners(state.z));
+        let (u, v) = (corners(state.u), corners(state.v));
+        let z_star = at_corners(z, corners(state.earlier), minus);
+        let column = at_corners(h, z, plus);
+        let z_squared = at_corners(z, z, times);
+        Record {
+            hb: mean(h),
+            ub: mean(u),
+            vb: mean(v),
+            z: mean(z_star),
+            qx: mean(at_corners(u, column, times)),
+            qy: mean(at_corners(v, column, times)),
+            gx: gradient(z, b),
+            gy: gradient(z, a),
+            sx: gradient(z_squared, b),
+            sy: gradient(z_squared, a),
+        }
+    }
+
+    /// "Jx = ((((f·Qy - (g·Sx)/(2·D)) + Wx) - K·Ub) + (Ub·Z)/dt) + tau·Qx".
+    fn jx(&self, d: f64, p: Parameters, wx: f64) -> f64 {
+        ((((p.f * self.qy - (G * self.sx) / (2.0 * d)) + wx) - p.k * self.ub)
+            + (self.ub * self.z) / p.dt)
+            + p.tau * self.qx
+    }
+
+    /// "Jy = (((((-f)·Qx - (g·Sy)/(2·D)) + Wy) - K·Vb) + (Vb·Z)/dt) + tau·Qy".
+    fn jy(&self, d: f64, p: Parameters, wy: f64) -> f64 {
+        (((((-p.f) * self.qx - (G * self.sy) / (2.0 * d)) + wy) - p.k * self.vb)
+            + (self.vb * self.z) / p.dt)
+            + p.tau * self.qy
+    }
+}
+
+/// "corner j receives (Jx·bj + Jy·aj)/2 - ((g·hb)·(Gx·bj + Gy·aj))/(2·D)".
+/// "R of a node starts at +0 and adds its corner values by ascending triangle
+/// number."
+fn add_corner_values(r: &mut [f64], mesh: &Mesh, state: &State, clock: Clock) {
+    r.fill(0.0);
+    for triangle in mesh.triangles() {
+        let record = Record::of(&triangle, mesh, state);
+        let d = triangle.twice_area() as f64;
+        let jx = record.jx(d, mesh.p, clock.wx);
+        let jy = record.jy(d, mesh.p, clock.wy);
+        let (a, b) = (triangle.a_floats(), triangle.b_floats());
+        for j in 0..3 {
+            let flux = (jx * b[j] + jy * a[j]) / 2.0;
+            let slope = record.gx * b[j] + record.gy * a[j];
+            r[triangle.corners[j]] += flux - ((G * record.hb) * slope) / (2.0 * d);
+        }
+    }
+}
+
+/// "a node's sum S of D over its triangles fits 53 bits".
+fn add_areas(sums: &mut [u64], mesh: &Mesh) {
+    sums.fill(0);
+    for triangle in mesh.triangles() {
+        for node in triangle.corners {
+            sums[node] += triangle.twice_area().unsigned_abs();
+        }
+    }
+}
+
+/// "L = (S/6)/dt. New z' = z + ((L·(1/dt - tau/2))·z* + R)/(L·(1/dt + tau/2))."
+fn new_elevation(z: f64, z_star: f64, r: f64, s: f64, p: Parameters) -> f64 {
+    let l = (s / 6.0) / p.dt;
+    let earlier_weight = l * (1.0 / p.dt - p.tau / 2.0);
+    let new_weight = l * (1.0 / p.dt + p.tau / 2.0);
+    z + (earlier_weight * z_star + r) / new_weight
+}
+
+/// Turns the R of each node into its z': "At kind 1, z' is the forcing's
+/// elevation."
+fn new_elevations(r: &mut [f64], sums: &[u64], mesh: &Mesh, state: &State, forcing: Forcing) {
+    for (node, place) in r.iter_mut().enumerate() {
+        *place = if mesh.kind[node] == OPEN {
+            forcing.elevation
+        } else {
+            let z = state.z[node];
+            let z_star = z - state.earlier[node];
+            new_elevation(z, z_star, *place, sums[node] as f64, mesh.p)
+        };
+    }
+}
+
+/// "The offending value comes back with its node: z', H', U' or V'."
+fn row_13(node: usize, value: f64) -> Answer {
+    Answer {
+        number: 13,
+        place: node,
+        value,
+    }
+}
+
+/// 13: "all z' first (node by node, size, then H')".
+fn row_13_elevations(z_new: &[f64], mesh: &Mesh) -> Result<(), Answer> {
+    for (node, (&z, &h)) in z_new.iter().zip(mesh.h).enumerate() {
+        if !in_size(z, HIGHEST) {
+            return Err(row_13(node, z));
+        }
+        let column = h + z;
+        if !deep_enough(column) {
+            return Err(row_13(node, column));
+        }
+    }
+    Ok(())
+}
+
+/// 13: "then, node by node, U' before V'".
+fn row_13_velocities(u_new: &[f64], v_new: &[f64]) -> Result<(), Answer> {
+    for (node, (&u, &v)) in u_new.iter().zip(v_new).enumerate() {
+        if !in_size(u, FASTEST) {
+            return Err(row_13(node, u));
+        }
+        if !in_size(v, FASTEST) {
+            return Err(row_13(node, v));
+        }
+    }
+    Ok(())
+}
+
+/// "Px starts at +0 and adds ((z1+z1')·b1 + (z2+z2')·b2) + (z3+z3')·b3 by
+/// ascending triangle; Py with a."
+fn add_slopes(px: &mut [f64], py: &mut [f64], z_new: &[f64], mesh: &Mesh, state: &State) {
+    px.fill(0.0);
+    py.fill(0.0);
+    for triangle in mesh.triangles() {
+        let z = triangle.corners.map(|node| state.z[node] + z_new[node]);
+        let x_slope = gradient(z, triangle.b_floats());
+        let y_slope = gradient(z, triangle.a_floats());
+        for node in triangle.corners {
+            px[node] += x_slope;
+            py[node] += y_slope;
+        }
+    }
+}
+
+/// What the velocity of one node is worked out from.
+struct Water {
+    /// "H = h+z".
+    column: f64,
+    /// "H' = h+z'".
+    new_column: f64,
+    u: f64,
+    v: f64,
+    px: f64,
+    py: f64,
+    s: f64,
+}
+
+impl Water {
+    /// "r = (dt·K)/(2·H'), p = 1+r, m = 1-r, q = (f·dt)/2".
+    /// "Rx = ((m·U + q·V) - gx) + wx, Ry = ((m·V - q·U) - gy) + wy,
+    /// n = p·p + q·q. U' = (p·Rx + q·Ry)/n, V' = (p·Ry - q·Rx)/n."
+    fn new_velocity(&self, parameters: Parameters, clock: Clock, forcing: Forcing) -> (f64, f64) {
+        let Parameters { dt, k, f, .. } = parameters;
+        let r = (dt * k) / (2.0 * self.new_column);
+        let p = 1.0 + r;
+        let m = 1.0 - r;
+        let q = (f * dt) / 2.0;
+        let gx = self.slope(dt, self.px);
+        let gy = self.slope(dt, self.py);
+        let wx = self.wind(dt, forcing.wx, clock.wx);
+        let wy = self.wind(dt, forcing.wy, clock.wy);
+        let rx = ((m * self.u + q * self.v) - gx) + wx;
+        let ry = ((m * self.v - q * self.u) - gy) + wy;
+        let n = p * p + q * q;
+        ((p * rx + q * ry) / n, (p * ry - q * rx) / n)
+    }
+
+    /// "gx = ((g·dt)·Px)/(2·S)", "likewise y".
+    fn slope(&self, dt: f64, sum: f64) -> f64 {
+        ((G * dt) * sum) / (2.0 * self.s)
+    }
+
+    /// "wx = (dt·(Wx'/H' + Wx/H))/2, likewise y".
+    fn wind(&self, dt: f64, new: f64, present: f64) -> f64 {
+        (dt * (new / self.new_column + present / self.column)) / 2.0
+    }
+}
+
+/// The new values of every node, z' then U' then V', left in the work room.
+fn new_values(
+    work: &mut [f64],
+    sums: &mut [u64],
+    mesh: &Mesh,
+    state: &State,
+    clock: Clock,
+    forcing: Forcing,
+) -> Result<(), Answer> {
+    let n = mesh.nodes();
+    let (first, rest) = work.split_at_mut(n);
+    let (second, third) = rest.split_at_mut(n);
+    add_areas(sums, mesh);
+    add_corner_values(first, mesh, state, clock);
+    new_elevations(first, sums, mesh, state, forcing);
+    row_13_elevations(first, mesh)?;
+    add_slopes(second, third, first, mesh, state);
+    for node in 0..n {
+        let water = Water {
+            column: mesh.h[node] + state.z[node],
+            new_column: mesh.h[node] + first[node],
+            u: state.u[node],
+            v: state.v[node],
+            px: second[node],
+            py: third[node],
+            s: sums[node] as f64,
+        };
+        // "At kind 2 both are +0."
+        (second[node], third[node]) = if mesh.kind[node] == HELD_LAND {
+            (0.0, 0.0)
+        } else {
+            water.new_velocity(mesh.p, clock, forcing)
+        };
+    }
+    row_13_velocities(second, third)
+}
+
+/// Steps a run once: rows 1 to 9 but 6, "10, 11, 12, then 13".
+///
+/// "The next state is z, z', U', V'; the clock gains one step and holds Wx',
+/// Wy'." "A refusal leaves state, next state, text and clock as found. Work
+/// room is untouched by every refusal but 13, and all zero after an accepted
+/// step or a 13."
+#[allow(clippy::too_many_arguments)] // each slice is lent by itself
+pub fn step(
+    next: &mut [f64],
+    work: &mut [f64],
+    sums: &mut [u64],
+    state: &[f64],
+    x: &[i32],
+    y: &[i32],
+    tri: &[u16],
+    h: &[f64],
+    kind: &[u8],
+    p: Parameters,
+    clock: Clock,
+    forcing: Forcing,
+) -> (Answer, Clock) {
+    let mesh = Mesh::lent(x, y, tri, h, kind, p);
+    let lengths = [next.len(), work.len(), sums.len(), state.len()];
+    let state = State::of(state);
+    if let Err(refusal) = rows_1_to_12(&mesh, lengths, &state, clock, forcing) {
+        return (refusal, clock);
+    }
+    let outcome = new_values(work, sums, &mesh, &state, clock, forcing);
+    if outcome.is_ok() {
+        let (earlier, rest) = next.split_at_mut(mesh.nodes());
+        earlier.copy_from_slice(state.z);
+        rest.copy_from_slice(work);
+    }
+    work.fill(0.0);
+    sums.fill(0);
+    match outcome {
+        Ok(()) => (Answer::accepted(0), clock.advanced(forcing)),
+        Err(refusal) => (refusal, clock),
+    }
+}
+
+/// All that is tested before a step works anything out. The lengths are those
+/// of the next state, the two work rooms and the state: "The next state goes to
+/// a second lent slice of 4N; work room is 3N binary64 and N 64-bit unsigned."
+fn rows_1_to_12(
+    mesh: &Mesh,
+    lengths: [usize; 4],
+    state: &State,
+    clock: Clock,
+    forcing: Forcing,
+) -> Result<(), Answer> {
+    let [next, work, sums, present] = lengths;
+    let lent = [(next, 4), (work, 3), (sums, 1), (present, 4)];
+    mesh.begin(&lent.map(|(length, runs)| Lent { length, runs }))?;
+    row_10(mesh, state)?;
+    row_11(clock)?;
+    row_12_held_wind(clock)?;
+    row_12_forcing(forcing)
+}

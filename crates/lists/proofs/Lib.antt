@@ -1,0 +1,4 @@
+pub mod TableLaws
+pub mod RunLaws
+pub mod ScanLaws
+pub mod GatherLaws

@@ -1,0 +1,122 @@
+-- Laws of `row`, `_then_`, `scan` and `some`, which the proof of each row cites.
+use Prim.Native.Nat.{ℕ, zero, suc, _+_, _<_}
+use mathlib.Core.Path.{_≡_, refl, sym, ap, _∙_}
+use mathlib.Core.Bool.{Bool, true, false, _||_, _&&_}
+use mathlib.Core.Logic.{⊎-elim}
+use native.Mathlib.Nat.{not-suc-le-zero, le-of-suc-le-suc, eq-or-lt-of-le}
+use native.Mathlib.Numerals.{add-one}
+use native.Mathlib.Omega.{arith}
+use Rattle.lists.specs.declared.rows.Answer.{Answer}
+use Rattle.lists.specs.Scan.{accepted, refused, row, _then_, scan, some}
+
+-- ---- one row
+pub row-holds : {test : Bool} (number place : ℕ) → test ≡ true → row test number place ≡ accepted
+unfolding row
+row-holds number place e = rw e
+
+pub row-fails : {test : Bool} (number place : ℕ) → test ≡ false → row test number place ≡ refused number place
+unfolding row
+row-fails number place e = rw e
+
+-- a row that accepts has a test that holds
+pub row-passed : (test : Bool) (number place : ℕ) → row test (suc number) place .number ≡ 0 → test ≡ true
+unfolding row
+row-passed true number place e = refl
+row-passed false number place e = absurd (omega arith)
+
+-- ---- rows in order
+pub then-stop : (a b : Answer) → (a .number ≡ 0 → ⊥) → (a then b) ≡ a
+unfolding _then_
+then-stop a b h = go (a .number) refl
+  where
+    go : (n : ℕ) → a .number ≡ n → (a then b) ≡ a
+    go zero e = absurd (h e)
+    go (suc n) e = rw e
+
+pub then-next : (a b : Answer) → a .number ≡ 0 → (a then b) ≡ b
+unfolding _then_
+then-next a b e = rw e
+
+-- where two rows in order accept, each accepts
+pub then-first : (a b : Answer) → (a then b) .number ≡ 0 → a .number ≡ 0
+then-first a b h = go (a .number) refl
+  where
+    go : (n : ℕ) → a .number ≡ n → a .number ≡ 0
+    go zero e = e
+    go (suc n) e = sym (ap (λ (x : Answer). x .number) (then-stop a b (λ z. absurd (omega (arith, e, z))))) ∙ h
+
+pub then-rest : (a b : Answer) → (a then b) .number ≡ 0 → b .number ≡ 0
+then-rest a b h = sym (ap (λ (x : Answer). x .number) (then-next a b (then-first a b h))) ∙ h
+
+-- ---- the first place
+pub scan-none : (f : ℕ → Answer) (n : ℕ) → ((k : ℕ) → k < n → f k .number ≡ 0) → scan f n ≡ accepted
+unfolding scan
+scan-none f zero h = refl
+scan-none f (suc n) h = then-next _ _ (h 0 (omega arith)) ∙ scan-none (λ k. f (suc k)) n (λ k l. h (suc k) (omega arith))
+
+pub scan-hit : (f : ℕ → Answer) (n i : ℕ) → i < n → ((k : ℕ) → k < i → f k .number ≡ 0) → (f i .number ≡ 0 → ⊥) → scan f n ≡ f i
+unfolding scan
+scan-hit f zero i l h e = absurd (not-suc-le-zero l)
+scan-hit f (suc n) zero l h e = then-stop _ _ e
+scan-hit f (suc n) (suc i) l h e =
+    then-next _ _ (h 0 (omega arith)) ∙ scan-hit (λ k. f (suc k)) n i (omega arith) (λ k m. h (suc k) (omega arith)) e
+
+-- where a scan accepts, no place refuses
+pub scan-clean : (f : ℕ → Answer) (n : ℕ) → scan f n .number ≡ 0 → (k : ℕ) → k < n → f k .number ≡ 0
+unfolding scan
+scan-clean f zero e k l = absurd (not-suc-le-zero l)
+scan-clean f (suc n) e zero l = then-first (f 0) (scan (λ k. f (suc k)) n) e
+scan-clean f (suc n) e (suc k) l = scan-clean (λ k. f (suc k)) n (then-rest (f 0) (scan (λ k. f (suc k)) n) e) k (omega arith)
+
+-- ---- some place
+or-true : (b : Bool) → (b || true) ≡ true
+or-true true = refl
+or-true false = refl
+
+module _ (test : ℕ → Bool) where
+  pub some-more : (n : ℕ) → some test (n + 1) ≡ (some test n || test n)
+  unfolding some
+  some-more n = rw add-one
+
+  pub some-none : (n : ℕ) → ((k : ℕ) → k < n → test k ≡ false) → some test n ≡ false
+  unfolding some
+  some-none zero h = refl
+  some-none (suc n) h = rw (some-none n (λ k l. h k (omega arith)), h n (omega arith))
+
+  pub some-hit : (n k : ℕ) → k < n → test k ≡ true → some test n ≡ true
+  unfolding some
+  some-hit zero k l e = absurd (not-suc-le-zero l)
+  some-hit (suc n) k l e = ⊎-elim (λ q. rw (← q, e) (or-true (some test k))) (λ q. rw (some-hit n k q e)) (eq-or-lt-of-le (le-of-suc-le-suc l))
+
+-- ---- tests joined
+pub both-left : (a b : Bool) → (a && b) ≡ true → a ≡ true
+both-left true b e = refl
+both-left false b e = e
+
+pub both-right : (a b : Bool) → (a && b) ≡ true → b ≡ true
+both-right true b e = e
+both-right false true e = refl
+both-right false false e = e
+
+-- ---- a call's answer and the definition that it meets
+pub same-number : {a b : Answer} → a ≡ b → a .number ≡ 0 → b .number ≡ 0
+same-number e h = ap (λ (x : Answer). x .number) (sym e) ∙ h
+
+pub other-number : {a b : Answer} → a ≡ b → (a .number ≡ 0 → ⊥) → b .number ≡ 0 → ⊥
+other-number e h z = h (ap (λ (x : Answer). x .number) e ∙ z)
+
+-- an answer that refuses stands, and one that accepts hands on to what follows
+pub stops : {a b : Answer} (rest : Answer) → a ≡ b → (a .number ≡ 0 → ⊥) → a ≡ (b then rest)
+stops {a} {b} rest e h = e ∙ sym (then-stop b rest (other-number e h))
+
+pub goes : {a : Answer} (b : Answer) {rest : Answer} → b .number ≡ 0 → a ≡ rest → a ≡ (b then rest)
+goes b {rest} h e = e ∙ sym (then-next b rest h)
+
+pub then-assoc : (a b c : Answer) → ((a then b) then c) ≡ (a then (b then c))
+then-assoc a b c = go (a .number) refl
+  where
+    go : (n : ℕ) → a .number ≡ n → ((a then b) then c) ≡ (a then (b then c))
+    go zero e = ap (λ (x : Answer). x then c) (then-next a b e) ∙ sym (then-next a (b then c) e)
+    go (suc n) e =
+        let r : a .number ≡ 0 → ⊥ = λ z. absurd (omega (arith, e, z)) in
+        ap (λ (x : Answer). x then c) (then-stop a b r) ∙ then-stop a c r ∙ sym (then-stop a (b then c) r)

@@ -1,0 +1,80 @@
+-- Laws of `table`, `upTo` and `copied`.
+use Prim.Native.Nat.{ℕ, zero, suc, _+_, _<_, _≤_}
+use mathlib.Core.Path.{_≡_, refl, sym, ap, _∙_}
+use mathlib.Core.List.{List, [], _∷_, append-nil}
+use mathlib.Core.Logic.{_⊎_, inl, inr, ⊎-elim}
+use native.Mathlib.Nat.{not-suc-le-zero, le-of-suc-le-suc}
+use native.Mathlib.Numerals.{add-one}
+use lib.ListN.{length, getD, set}
+use lib.Seq.{ext-getD, take-length, drop-length}
+use Rattle.lists.specs.Table.{table, upTo, copied}
+
+module _ {A : Type 0} where
+  pub length-table : (n : ℕ) (f : ℕ → A) → length (table n f) ≡ n
+  unfolding table
+  length-table zero f = refl
+  length-table (suc n) f = ap suc (length-table n (λ k. f (suc k)))
+
+  pub getD-table : (n : ℕ) (f : ℕ → A) (i : ℕ) (d : A) → i < n → getD (table n f) i d ≡ f i
+  unfolding table
+  getD-table zero f i d h = absurd (not-suc-le-zero h)
+  getD-table (suc n) f zero d h = refl
+  getD-table (suc n) f (suc i) d h = getD-table n (λ k. f (suc k)) i d (le-of-suc-le-suc h)
+
+  -- a list of n places that are those of f is f's table
+  pub is-table : (d : A) (n : ℕ) (f : ℕ → A) (l : List A) → length l ≡ n → ((i : ℕ) → i < n → getD l i d ≡ f i) → l ≡ table n f
+  is-table d n f l e h =
+      ext-getD d l (table n f) (e ∙ sym (length-table n f)) (λ i p. h i (rw e at p) ∙ sym (getD-table n f i d (rw e at p)))
+
+  -- ---- a loop that writes the places 0, 1, .. in turn
+  pub up-none : (f : ℕ → A) (l : List A) → upTo 0 f l ≡ l
+  unfolding upTo table
+  up-none f l = refl
+
+  up-suc : (i : ℕ) (f : ℕ → A) (l : List A) → i < length l → set (upTo i f l) i (f i) ≡ upTo (suc i) f l
+  unfolding upTo table
+  up-suc i f [] h = absurd (not-suc-le-zero h)
+  up-suc zero f (x ∷ l) h = refl
+  up-suc (suc i) f (x ∷ l) h = ap (λ (t : List A). f zero ∷ t) (up-suc i (λ k. f (suc k)) l (le-of-suc-le-suc h))
+
+  pub up-more : (i : ℕ) (f : ℕ → A) (l : List A) → i < length l → set (upTo i f l) i (f i) ≡ upTo (i + 1) f l
+  up-more i f l h = rw (add-one, up-suc i f l h)
+
+  pub up-length : (i : ℕ) (f : ℕ → A) (l : List A) → i ≤ length l → length (upTo i f l) ≡ length l
+  unfolding upTo table
+  up-length zero f l h = refl
+  up-length (suc i) f [] h = absurd (not-suc-le-zero h)
+  up-length (suc i) f (x ∷ l) h = ap suc (up-length i (λ k. f (suc k)) l (le-of-suc-le-suc h))
+
+  -- what is not yet written is as it was
+  pub up-ahead : (i : ℕ) (f : ℕ → A) (l : List A) (k : ℕ) (d : A) → i ≤ k → i ≤ length l → getD (upTo i f l) k d ≡ getD l k d
+  unfolding upTo table
+  up-ahead zero f l k d h g = refl
+  up-ahead (suc i) f [] k d h g = absurd (not-suc-le-zero g)
+  up-ahead (suc i) f (x ∷ l) zero d h g = absurd (not-suc-le-zero h)
+  up-ahead (suc i) f (x ∷ l) (suc k) d h g = up-ahead i (λ j. f (suc j)) l k d (le-of-suc-le-suc h) (le-of-suc-le-suc g)
+
+  pub up-all : (f : ℕ → A) (l : List A) → upTo (length l) f l ≡ table (length l) f
+  unfolding upTo table
+  up-all f [] = refl
+  up-all f (x ∷ l) = ap (λ (t : List A). f zero ∷ t) (up-all (λ k. f (suc k)) l)
+
+  -- ---- a copy
+  -- all the places that both have are written in turn
+  pub up-copied : (d : A) (from to : List A) (n : ℕ) → n ≤ length to → n ≤ length from → (length to ≤ n) ⊎ (length from ≤ n)
+      → upTo n (λ i. getD from i d) to ≡ copied from to
+  unfolding upTo copied table
+  up-copied d [] [] zero h g e = refl
+  up-copied d [] (y ∷ to) zero h g e = refl
+  up-copied d (x ∷ from) [] zero h g e = refl
+  up-copied d (x ∷ from) (y ∷ to) zero h g e = ⊎-elim (λ u. absurd (not-suc-le-zero u)) (λ u. absurd (not-suc-le-zero u)) e
+  up-copied d from [] (suc n) h g e = absurd (not-suc-le-zero h)
+  up-copied d [] (y ∷ to) (suc n) h g e = absurd (not-suc-le-zero g)
+  up-copied d (x ∷ from) (y ∷ to) (suc n) h g e =
+      ap (λ (t : List A). x ∷ t)
+      (up-copied d from to n (le-of-suc-le-suc h) (le-of-suc-le-suc g) (⊎-elim (λ u. inl (le-of-suc-le-suc u)) (λ u. inr (le-of-suc-le-suc u)) e))
+
+  -- between lists of one length it is the whole
+  pub copied-whole : (from to : List A) → length to ≡ length from → copied from to ≡ from
+  unfolding copied
+  copied-whole from to e = rw (e, take-length from, ← e, drop-length to, append-nil)

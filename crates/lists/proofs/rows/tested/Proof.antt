@@ -1,0 +1,20 @@
+use mathlib.Core.Path.{sym, _∙_}
+use borrow.Author.Needs.{needs}
+use Rattle.lists.proofs.ScanLaws.{row-holds, row-fails}
+use Rattle.lists.proofs.rows.tested.Statement.{statement}
+use Rattle.lists.proofs.rows.tested.Tie as tie
+
+accept-requires : tie.Need-accept-requires
+accept-requires c κs = search needs
+
+refuse-requires : tie.Need-refuse-requires
+refuse-requires c κs = search needs
+
+returns : tie.Need-returns
+returns c = c .accept .ensures ∙ sym (row-holds _ _ (c .before .if1 .taken))
+
+returns-2 : tie.Need-returns-2
+returns-2 c = c .refuse .ensures ∙ sym (row-fails _ _ (c .before .if1 .left))
+
+pub tested-spec : {M : Type 1} → statement M
+tested-spec = tie.close (tie.spec accept-requires refuse-requires returns returns-2)

@@ -1,0 +1,4 @@
+pub mod Table
+pub mod Runs
+pub mod Scan
+pub mod Gather

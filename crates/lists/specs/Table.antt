@@ -1,0 +1,17 @@
+-- A list that is given by what stands at each place.
+use Prim.Native.Nat.{ℕ, zero, suc}
+use mathlib.Core.List.{List, [], _∷_, _++_}
+use lib.ListN.{length, take, drop}
+
+-- f 0, f 1, .. , n of them
+unfoldable pub table : {A : Type 0} → ℕ → (ℕ → A) → List A
+table zero f = []
+table (suc n) f = f zero ∷ table n (λ k. f (suc k))
+
+-- l with its first n places written anew: what a loop that writes the places 0, 1, .. in turn has made of l after n of them
+unfoldable pub upTo : {A : Type 0} → ℕ → (ℕ → A) → List A → List A
+upTo n f l = table n f ++ drop n l
+
+-- as many places of `to` as both have, written from `from`
+unfoldable pub copied : {A : Type 0} → List A → List A → List A
+copied from to = take (length to) from ++ drop (length from) to

@@ -1,0 +1,72 @@
+-- Document 01, "Examples": those marked P, as one table. Each entry has what the definitions give beside what the document says.
+use Prim.Native.Nat.{ℕ}
+use mathlib.Core.Path.{_≡_}
+use mathlib.Core.List.{List, [], _∷_, map}
+use lib.IntN.{ℤ, pos, negsuc}
+use lib.ListN.{length, replicate}
+use Rattle.lists.specs.declared.rows.Answer.{Answer}
+use Rattle.lists.specs.Scan.{accepted, refused, decimal}
+use Rattle.surge.specs.declared.Parameters.{Parameters}
+use Rattle.surge.specs.declared.mesh.geometry.Sides.{Sides}
+use Rattle.surge.specs.Lent.{Mesh, mesh, N, corners, coldState}
+use Rattle.surge.specs.Geometry.{sides, D}
+use Rattle.surge.specs.Open.{openAnswer}
+
+-- what an example speaks of: the a, b and D of a triangle, or the whole answer of a call: number, place and value
+pub data Outcome : Type 0 where
+  triangle : Sides → ℤ → Outcome
+  answer : Answer → Outcome
+
+pub record Example : Type 0 where
+  pub gives : Outcome
+  pub says : Outcome
+
+-- "mesh T: (0,0), (100,0), (0,100), triangle 0 1 2, h 8, kinds 0, dt 1, tau, K, f 0"; here with other coordinates and triangles
+abbrev pub like-T : List ℤ → List ℤ → List ℕ → Mesh
+like-T x y tri = mesh x y tri (replicate (length x) (decimal 8 1)) (replicate (length x) 0)
+
+abbrev pub T-parameters : Parameters
+T-parameters = record { dt = decimal 1 1; tau = decimal 0 1; k = decimal 0 1; f = decimal 0 1 }
+
+-- T's coordinates, with corner 1 at x
+abbrev pub T-x : ℕ → List ℤ
+T-x x = pos 0 ∷ pos x ∷ pos 0 ∷ []
+
+abbrev pub T-y : List ℤ
+T-y = pos 0 ∷ pos 0 ∷ pos 100 ∷ []
+
+abbrev pub geometry : Mesh → Outcome
+geometry m = let s = sides (m .x) (m .y) (corners (m .tri) 0) in triangle s (D s)
+
+-- what opening a mesh answers, with a state of 4N
+abbrev pub opening : Mesh → Outcome
+opening m = answer (openAnswer m T-parameters (coldState (N m)))
+
+abbrev pub example : Outcome → Outcome → Example
+example g s = record { gives = g; says = s }
+
+unfoldable pub table : List Example
+table =
+    -- 1. "T has a = -100, 0, 100; b = -100, 100, 0; D = 10,000."
+    example (geometry (like-T (T-x 100) T-y (0 ∷ 1 ∷ 2 ∷ [])))
+    (triangle (record { a1 = negsuc 99; a2 = pos 0; a3 = pos 100; b1 = negsuc 99; b2 = pos 100; b3 = pos 0 }) (pos 10000))
+    -- T itself is accepted
+    ∷ example (opening (like-T (T-x 100) T-y (0 ∷ 1 ∷ 2 ∷ []))) (answer accepted)
+    -- 2. "triangle 0 2 1 on T: 5."
+    ∷ example (opening (like-T (T-x 100) T-y (0 ∷ 2 ∷ 1 ∷ []))) (answer (refused 5 0))
+    -- 3. "triangle 0 1 1: 5."
+    ∷ example (opening (like-T (T-x 100) T-y (0 ∷ 1 ∷ 1 ∷ []))) (answer (refused 5 0))
+    -- 4. "node number 3: 3."
+    ∷ example (opening (like-T (T-x 100) T-y (0 ∷ 1 ∷ 3 ∷ []))) (answer (refused 3 0))
+    -- 5. "corner at x = 100,000 passes row 4; 100,001 gives 4."
+    ∷ example (opening (like-T (T-x 100000) T-y (0 ∷ 1 ∷ 2 ∷ []))) (answer accepted)
+    ∷ example (opening (like-T (T-x 100001) T-y (0 ∷ 1 ∷ 2 ∷ []))) (answer (refused 4 0))
+    -- 6. "the same triangle twice: 6, place 1."
+    ∷ example (opening (like-T (T-x 100) T-y (0 ∷ 1 ∷ 2 ∷ 0 ∷ 1 ∷ 2 ∷ []))) (answer (refused 6 1))
+    -- 7. "N 4 with triangle 0 1 2: 7, place 3."
+    ∷ example (opening (like-T (pos 0 ∷ pos 100 ∷ pos 0 ∷ pos 7 ∷ []) (pos 0 ∷ pos 0 ∷ pos 100 ∷ pos 7 ∷ []) (0 ∷ 1 ∷ 2 ∷ []))) (answer (refused 7 3))
+    ∷ []
+
+-- the one statement: what the definitions give is what the document says
+abbrev pub ExamplesHold : Type 0
+ExamplesHold = map (λ (e : Example). e .gives) table ≡ map (λ (e : Example). e .says) table

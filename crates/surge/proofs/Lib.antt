@@ -1,0 +1,5 @@
+pub mod Sizes
+pub mod GeometryLaws
+pub mod RowLaws
+pub mod AcceptedLaws
+pub mod OpenLaws

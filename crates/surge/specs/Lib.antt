@@ -1,0 +1,5 @@
+pub mod Lent
+pub mod Geometry
+pub mod Rows
+pub mod Accepted
+pub mod Open

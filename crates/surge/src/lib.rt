@@ -1,0 +1,65 @@
+// The storm-surge run of document 01: the calls that are made on it, and what goes into them and comes back.
+pub mod mesh;
+
+use lists::rows::Answer;
+use lists::slices;
+ghost use mathlib.Core.Path.{_≡_};
+ghost use Rattle.surge.specs.Lent.{mesh, coldClock};
+ghost use Rattle.surge.specs.Open.{openOut, openOf};
+
+// The parameters: time step, the report's tau-zero, linear bottom friction K, Coriolis f.
+pub struct Parameters {
+    pub dt: f64,
+    pub tau: f64,
+    pub k: f64,
+    pub f: f64,
+}
+
+// The step number and the present wind.
+pub struct Clock {
+    pub step: u32,
+    pub wx: f64,
+    pub wy: f64,
+}
+
+impl Clock {
+    // The clock of a cold start.
+    pub fn cold() -> Self
+        ensures { λ r. ⌜ r ≡ coldClock ⌝ }
+    {
+        Clock {
+            step: 0,
+            wx: 0.0,
+            wy: 0.0,
+        }
+    }
+}
+
+// What opening a mesh hands back.
+pub struct Opened {
+    pub answer: Answer,
+    pub clock: Clock,
+}
+
+// Opens a mesh: rows 1 to 9, then the cold state. The cold clock comes back either way.
+pub fn open(
+    state: &mut [f64],
+    x: &[i32],
+    y: &[i32],
+    tri: &[u16],
+    h: &[f64],
+    kind: &[u8],
+    p: Parameters,
+) -> Opened
+    ensures { λ r. ⌜ openOut r (now (state .exit)) ≡ openOf (mesh (now (x .entry)) (now (y .entry)) (now (tri .entry)) (now (h .entry)) (now (kind .entry))) p (now (state .entry)) ⌝ }
+{
+    let rooms = slices::is_runs(state.len(), 4, x.len());
+    let answer = mesh::check(rooms, true, x, y, tri, h, kind, p);
+    if answer.number == 0 {
+        slices::clear(state);
+    }
+    Opened {
+        answer,
+        clock: Clock::cold(),
+    }
+}

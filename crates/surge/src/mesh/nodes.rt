@@ -1,0 +1,61 @@
+// Rows 7 and 8: the nodes.
+use super::geometry;
+use lists::rows;
+use lists::rows::Answer;
+ghost use mathlib.Core.Path.{_≡_};
+ghost use Prim.Native.Nat.{ℕ, _<_, _≤_};
+ghost use lib.ListN.{length, getD};
+ghost use Rattle.lists.specs.Scan.{scan};
+ghost use Rattle.lists.specs.Table.{table};
+ghost use Rattle.surge.specs.Rows.{isNamed, row7, row8};
+
+// Each node is marked when a triangle names it.
+fn marks(tri: &[u16]) -> [bool; 4096]
+    requires { ⌜ ((j : ℕ) → j < length (now tri) → getD (now tri) j 0 < 4096) ⌝ }
+    ensures { λ r. ⌜ r ≡ table 4096 (isNamed (now (tri .entry))) ⌝ }
+{
+    let mut seen = [false; 4096];
+    for j in 0..tri.len() {
+        let node = geometry::node_at(tri, j);
+        seen[node] = true;
+    }
+    seen
+}
+
+// Row 7: the first node below n that no triangle names.
+pub(crate) fn named(tri: &[u16], n: usize) -> Answer
+    requires { ⌜ n ≤ 4096 ⌝ }
+    requires { ⌜ ((j : ℕ) → j < length (now tri) → getD (now tri) j 0 < n) ⌝ }
+    ensures { λ r. ⌜ r ≡ scan (row7 (now (tri .entry))) n ⌝ }
+{
+    let seen = marks(tri);
+    for i in 0..n {
+        if !seen[i] {
+            return rows::refuse(7, i);
+        }
+    }
+    rows::accept()
+}
+
+// Row 8 of one node.
+fn depth(h: &[f64], kind: &[u8], i: usize) -> Answer
+    requires { ⌜ (i < length (now h)) × (i < length (now kind)) ⌝ }
+    ensures { λ r. ⌜ r ≡ row8 (now (h .entry)) (now (kind .entry)) i ⌝ }
+{
+    let deep = rows::in_range(1.0, h[i], 12000.0);
+    rows::tested(deep & (kind[i] <= 2), 8, i)
+}
+
+// Row 8: the first node whose depth or kind is out of range.
+pub(crate) fn depths(h: &[f64], kind: &[u8]) -> Answer
+    requires { ⌜ length (now kind) ≡ length (now h) ⌝ }
+    ensures { λ r. ⌜ r ≡ scan (row8 (now (h .entry)) (now (kind .entry))) (length (now (h .entry))) ⌝ }
+{
+    for i in 0..h.len() {
+        let answer = depth(h, kind, i);
+        if answer.number != 0 {
+            return answer;
+        }
+    }
+    rows::accept()
+}
