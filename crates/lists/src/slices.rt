@@ -29,11 +29,8 @@ pub fn clear(s: &mut [f64])
 pub fn copy(to: &mut [f64], from: &[f64])
     ensures { λ _. ⌜ now (to .exit) ≡ copied (now (from .entry)) (now (to .entry)) ⌝ }
 {
-    let n = if to.len() < from.len() {
-        to.len()
-    } else {
-        from.len()
-    };
+    let all = from.len();
+    let n = if all < to.len() { all } else { to.len() };
     for i in 0..n {
         to[i] = from[i];
     }

@@ -45,8 +45,8 @@ opening m = answer (openAnswer m T-parameters (coldState (N m)))
 abbrev pub example : Outcome → Outcome → Example
 example g s = record { gives = g; says = s }
 
-unfoldable pub table : List Example
-table =
+unfoldable pub examples : List Example
+examples =
     -- 1. "T has a = -100, 0, 100; b = -100, 100, 0; D = 10,000."
     example (geometry (like-T (T-x 100) T-y (0 ∷ 1 ∷ 2 ∷ [])))
     (triangle (record { a1 = negsuc 99; a2 = pos 0; a3 = pos 100; b1 = negsuc 99; b2 = pos 100; b3 = pos 0 }) (pos 10000))
@@ -69,4 +69,4 @@ table =
 
 -- the one statement: what the definitions give is what the document says
 abbrev pub ExamplesHold : Type 0
-ExamplesHold = map (λ (e : Example). e .gives) table ≡ map (λ (e : Example). e .says) table
+ExamplesHold = map (λ (e : Example). e .gives) examples ≡ map (λ (e : Example). e .says) examples

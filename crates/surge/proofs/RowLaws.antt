@@ -11,7 +11,7 @@ use lib.ListN.{length, getD, set}
 use lib.Seq.{getD-set-same, getD-set-other}
 use Rattle.lists.specs.declared.rows.Answer.{Answer}
 use Rattle.lists.specs.Gather.{Three, Below}
-use Rattle.lists.specs.Scan.{refused, row, some}
+use Rattle.lists.specs.Scan.{refused, row, _then_, some}
 use Rattle.lists.proofs.ScanLaws.{row-holds, row-fails, both-left, both-right, some-none, some-hit, some-more}
 use Rattle.surge.specs.Lent.{corners}
 use Rattle.surge.specs.Geometry.{sides, D, allNear}

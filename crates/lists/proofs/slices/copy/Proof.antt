@@ -11,10 +11,10 @@ use Rattle.lists.proofs.slices.copy.Statement.{statement}
 use Rattle.lists.proofs.slices.copy.Tie as tie
 
 abbrev Inv-loop : tie.InvT-loop
-Inv-loop to₀ from n i₀ to i = (i ≤ n) × (to ≡ upTo i (λ k. getD from k nan) to₀)
+Inv-loop to₀ from all n i₀ to i = (i ≤ n) × (to ≡ upTo i (λ k. getD from k nan) to₀)
 
 abbrev μ-loop : tie.MeasureT-loop
-μ-loop to₀ from n i₀ to i = n - i
+μ-loop to₀ from all n i₀ to i = n - i
 
 -- n is the shorter length
 shorter : (c : tie.Joined1 Inv-loop μ-loop) → (c .if1 .n ≤ length (c .before .args .to .now)) × (c .if1 .n ≤ length (c .before .args .from .now))
@@ -62,7 +62,7 @@ returns c =
     a .loop .inv .1
     ∙ rw done
     (up-copied nan (s .from .now) (s .to .now) (a .before .if1 .n) (shorter (a .before) .0) (shorter (a .before) .1)
-    (⊎-elim (λ w. inl (omega arith)) (λ w. inr (omega arith)) (a .before .if1 .came)))
+    (⊎-elim (λ w. inr (omega arith)) (λ w. inl (omega arith)) (a .before .if1 .came)))
 
 pub copy-spec : {M : Type 1} → statement M
 copy-spec =
