@@ -6,15 +6,15 @@ use lib.IntN.{ℤ, pos, negsuc}
 use lib.ListN.{length, replicate}
 use Rattle.lists.specs.declared.rows.Answer.{Answer}
 use Rattle.lists.specs.Scan.{accepted, refused, decimal}
-use Rattle.surge.specs.declared.Parameters.{Parameters}
-use Rattle.surge.specs.declared.mesh.geometry.Sides.{Sides}
+use Rattle.equations.specs.declared.Parameters.{Parameters}
+use Rattle.surge.specs.declared.mesh.geometry.WholeSides.{WholeSides}
 use Rattle.surge.specs.Lent.{Mesh, mesh, N, corners, coldState}
 use Rattle.surge.specs.Geometry.{sides, D}
 use Rattle.surge.specs.Open.{openAnswer}
 
 -- what an example speaks of: the a, b and D of a triangle, or the whole answer of a call: number, place and value
 pub data Outcome : Type 0 where
-  triangle : Sides → ℤ → Outcome
+  triangle : WholeSides → ℤ → Outcome
   answer : Answer → Outcome
 
 pub record Example : Type 0 where

@@ -14,7 +14,7 @@ use Rattle.lists.specs.Gather.{Below, alike}
 use Rattle.lists.specs.Scan.{row, _then_, scan, within, decimal}
 use Rattle.lists.proofs.ScanLaws.{row-passed, then-first, then-rest, then-assoc, scan-clean, both-left, both-right}
 use Rattle.lists.proofs.GatherLaws.{gathered-le}
-use Rattle.surge.specs.declared.Parameters.{Parameters}
+use Rattle.equations.specs.declared.Parameters.{Parameters}
 use Rattle.surge.specs.Lent.{Mesh, N, E, corner, corners}
 use Rattle.surge.specs.Geometry.{sides, D, allNear, area, S}
 use Rattle.surge.specs.Rows.{allBelow, row1, row2, row3, row4, row5, rows3to5, row6If, row7, row8, row9, rows1to9}

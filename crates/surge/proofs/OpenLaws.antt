@@ -12,7 +12,7 @@ use Rattle.lists.specs.Table.{table}
 use Rattle.lists.specs.Runs.{isRuns}
 use Rattle.lists.specs.Scan.{plus0}
 use Rattle.lists.proofs.ScanLaws.{same-number}
-use Rattle.surge.specs.declared.Parameters.{Parameters}
+use Rattle.equations.specs.declared.Parameters.{Parameters}
 use Rattle.surge.specs.declared.Clock.{Clock}
 use Rattle.surge.specs.Lent.{Mesh, N, coldState, coldClock}
 use Rattle.surge.specs.Open.{openAnswer, openOut, openOf}

@@ -7,7 +7,7 @@ use lib.ListN.{length, getD}
 use lib.Ieee.{nan}
 use Rattle.lists.specs.Gather.{Below}
 use Rattle.lists.specs.Scan.{within, decimal, minus}
-use Rattle.surge.specs.declared.Parameters.{Parameters}
+use Rattle.equations.specs.declared.Parameters.{Parameters}
 use Rattle.surge.specs.Lent.{Mesh, N, E, corners}
 use Rattle.surge.specs.Geometry.{sides, D, allNear, area, S}
 use Rattle.surge.specs.Rows.{isNamed}

@@ -8,15 +8,15 @@ use lib.ListN.{getD}
 use lib.Ieee.{binary64, ofInt}
 use Rattle.lists.specs.Gather.{Three, alike, whole, gathered}
 use Rattle.surge.specs.declared.mesh.geometry.Corners.{Corners}
-use Rattle.surge.specs.declared.mesh.geometry.Sides.{Sides}
-use Rattle.surge.specs.declared.mesh.geometry.Floats.{Floats}
+use Rattle.surge.specs.declared.mesh.geometry.WholeSides.{WholeSides}
+use Rattle.equations.specs.declared.Sides.{Sides}
 use Rattle.surge.specs.Lent.{Mesh, E, corners}
 
 abbrev pub nodesOf : Corners → Three ℕ
 nodesOf c = record { first = c .n1; second = c .n2; third = c .n3 }
 
 -- "a1 = x3-x2, a2 = x1-x3, a3 = x2-x1; b1 = y2-y3, b2 = y3-y1, b3 = y1-y2"
-abbrev pub sidesOf : Three ℤ → Three ℤ → Sides
+abbrev pub sidesOf : Three ℤ → Three ℤ → WholeSides
 sidesOf x y = record {
   a1 = x .third -ℤ x .second;
   a2 = x .first -ℤ x .third;
@@ -30,18 +30,18 @@ sidesOf x y = record {
 abbrev pub at : List ℤ → Three ℕ → Three ℤ
 at l c = record { first = getD l (c .first) (pos 0); second = getD l (c .second) (pos 0); third = getD l (c .third) (pos 0) }
 
-unfoldable pub sides : List ℤ → List ℤ → Three ℕ → Sides
+unfoldable pub sides : List ℤ → List ℤ → Three ℕ → WholeSides
 sides x y c = sidesOf (at x c) (at y c)
 
 -- "Twice the area, with its sign, is D = a3·b2 - a2·b3."
-abbrev pub D : Sides → ℤ
+abbrev pub D : WholeSides → ℤ
 D s = s .a3 *ℤ s .b2 -ℤ s .a2 *ℤ s .b3
 
 -- "Each |a|, |b| is at most 100,000"
 abbrev pub near : ℤ → Bool
 near v = leb (natAbs v) 100000
 
-unfoldable pub allNear : Sides → Bool
+unfoldable pub allNear : WholeSides → Bool
 allNear s = near (s .a1) && near (s .a2) && near (s .a3) && near (s .b1) && near (s .b2) && near (s .b3)
 
 -- D of triangle t as a count: after row 5 it is above 0
@@ -53,7 +53,7 @@ abbrev pub S : Mesh → ℕ → ℕ
 S m i = gathered whole (corners (m .tri)) (λ t. alike (area m t)) (E m) i
 
 -- "all become floats without loss"
-unfoldable pub floats : Sides → Floats
+unfoldable pub floats : WholeSides → Sides
 floats s = record {
   a1 = ofInt binary64 (s .a1);
   a2 = ofInt binary64 (s .a2);

@@ -6,7 +6,7 @@ use lib.ListN.{length}
 use lib.Ieee.{Float}
 use Rattle.lists.specs.declared.rows.Answer.{Answer}
 use Rattle.lists.specs.Runs.{isRuns}
-use Rattle.surge.specs.declared.Parameters.{Parameters}
+use Rattle.equations.specs.declared.Parameters.{Parameters}
 use Rattle.surge.specs.declared.Opened.{Opened}
 use Rattle.surge.specs.Lent.{Mesh, N, coldState, coldClock}
 use Rattle.surge.specs.Rows.{rows1to9}

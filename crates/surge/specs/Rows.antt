@@ -10,7 +10,7 @@ use lib.Ieee.{Float, nan}
 use Rattle.lists.specs.declared.rows.Answer.{Answer}
 use Rattle.lists.specs.Scan.{accepted, row, _then_, scan, some, within, decimal, minus}
 use Rattle.lists.specs.Gather.{Three}
-use Rattle.surge.specs.declared.Parameters.{Parameters}
+use Rattle.equations.specs.declared.Parameters.{Parameters}
 use Rattle.surge.specs.Lent.{Mesh, N, E, corner, corners}
 use Rattle.surge.specs.Geometry.{sides, D, allNear}
 

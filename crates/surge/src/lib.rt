@@ -1,19 +1,12 @@
 // The storm-surge run of document 01: the calls that are made on it, and what goes into them and comes back.
 pub mod mesh;
 
+use equations::Parameters;
 use lists::rows::Answer;
 use lists::slices;
 ghost use mathlib.Core.Path.{_≡_};
 ghost use Rattle.surge.specs.Lent.{mesh, coldClock};
 ghost use Rattle.surge.specs.Open.{openOut, openOf};
-
-// The parameters: time step, the report's tau-zero, linear bottom friction K, Coriolis f.
-pub struct Parameters {
-    pub dt: f64,
-    pub tau: f64,
-    pub k: f64,
-    pub f: f64,
-}
 
 // The step number and the present wind.
 pub struct Clock {

@@ -3,7 +3,7 @@ pub(crate) mod geometry;
 pub(crate) mod nodes;
 pub(crate) mod triangles;
 
-use super::Parameters;
+use equations::Parameters;
 use lists::rows;
 use lists::rows::Answer;
 ghost use mathlib.Core.Path.{_≡_};

@@ -1,4 +1,5 @@
 // Triangle geometry, in whole numbers and as floats without loss.
+use equations::Sides;
 ghost use mathlib.Core.Path.{_≡_};
 ghost use mathlib.Core.Bool.{true};
 ghost use Prim.Native.Nat.{_+_, _*_, _≤_, _<_, _^_};
@@ -16,25 +17,14 @@ pub struct Corners {
     pub n3: usize,
 }
 
-// The a and b of one triangle.
-pub struct Sides {
+// The a and b of one triangle, in whole metres.
+pub struct WholeSides {
     pub a1: i64,
     pub a2: i64,
     pub a3: i64,
     pub b1: i64,
     pub b2: i64,
     pub b3: i64,
-}
-
-// The same as floats, with twice the area.
-pub struct Floats {
-    pub a1: f64,
-    pub a2: f64,
-    pub a3: f64,
-    pub b1: f64,
-    pub b2: f64,
-    pub b3: f64,
-    pub d: f64,
 }
 
 // The node number at a place of the triangle list.
@@ -64,7 +54,7 @@ fn gap(s: &[i32], p: usize, q: usize) -> i64
     (s[p] as i64) - (s[q] as i64)
 }
 
-pub(crate) fn sides_at(x: &[i32], y: &[i32], c: Corners) -> Sides
+pub(crate) fn sides_at(x: &[i32], y: &[i32], c: Corners) -> WholeSides
     requires { ⌜ length (now y) ≡ length (now x) ⌝ }
     requires { ⌜ Below (nodesOf c) (length (now x)) ⌝ }
     ensures { λ r. ⌜ r ≡ sides (now (x .entry)) (now (y .entry)) (nodesOf c) ⌝ }
@@ -72,7 +62,7 @@ pub(crate) fn sides_at(x: &[i32], y: &[i32], c: Corners) -> Sides
     let i = c.n1;
     let j = c.n2;
     let k = c.n3;
-    Sides {
+    WholeSides {
         a1: gap(x, k, j),
         a2: gap(x, i, k),
         a3: gap(x, j, i),
@@ -89,14 +79,14 @@ fn is_near(v: i64) -> bool
     (-100000 <= v) & (v <= 100000)
 }
 
-pub(crate) fn all_near(s: Sides) -> bool
+pub(crate) fn all_near(s: WholeSides) -> bool
     ensures { λ r. ⌜ r ≡ allNear s ⌝ }
 {
     is_near(s.a1) & is_near(s.a2) & is_near(s.a3) & is_near(s.b1) & is_near(s.b2) & is_near(s.b3)
 }
 
 // D, twice the area, with its sign.
-pub(crate) fn twice_area(s: Sides) -> i64
+pub(crate) fn twice_area(s: WholeSides) -> i64
     requires { ⌜ allNear s ≡ true ⌝ }
     ensures { λ r. ⌜ r ≡ D s ⌝ }
 {
@@ -120,11 +110,11 @@ pub(crate) fn exact_sum(s: u64) -> f64
 }
 
 // The one place where a float a, b or D is made.
-pub(crate) fn floats_of(s: Sides) -> Floats
+pub(crate) fn floats_of(s: WholeSides) -> Sides
     requires { ⌜ allNear s ≡ true ⌝ }
     ensures { λ r. ⌜ r ≡ floats s ⌝ }
 {
-    Floats {
+    Sides {
         a1: exact(s.a1),
         a2: exact(s.a2),
         a3: exact(s.a3),

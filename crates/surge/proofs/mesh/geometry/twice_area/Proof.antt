@@ -4,14 +4,14 @@ use lib.IntN.{_*ℤ_}
 use mir.Syntax.{w64}
 use mir.Val.{SFits}
 use borrow.Author.Needs.{needs}
-use Rattle.surge.specs.declared.mesh.geometry.Sides.{Sides}
+use Rattle.surge.specs.declared.mesh.geometry.WholeSides.{WholeSides}
 use Rattle.surge.specs.Geometry.{allNear, D}
 use Rattle.surge.proofs.GeometryLaws.{all-small, small-holds}
 use Rattle.surge.proofs.mesh.geometry.twice_area.Statement.{statement}
 use Rattle.surge.proofs.mesh.geometry.twice_area.Tie as tie
 
 -- each number on the way fits
-record Fit (s : Sides) : Type 0 where
+record Fit (s : WholeSides) : Type 0 where
   a2 : SFits w64 (s .a2)
   a3 : SFits w64 (s .a3)
   b2 : SFits w64 (s .b2)
@@ -20,7 +20,7 @@ record Fit (s : Sides) : Type 0 where
   right : SFits w64 (s .a2 *ℤ s .b3)
   d : SFits w64 (D s)
 
-fit : (s : Sides) → allNear s ≡ true → Fit s
+fit : (s : WholeSides) → allNear s ≡ true → Fit s
 fit s e =
     let n = all-small s e in
     record {

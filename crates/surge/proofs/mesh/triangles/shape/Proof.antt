@@ -7,7 +7,7 @@ use lib.Signed.{ltZ}
 use lib.ListN.{length}
 use Rattle.lists.specs.Gather.{Three}
 use Rattle.lists.specs.Scan.{row}
-use Rattle.surge.specs.declared.mesh.geometry.Sides.{Sides}
+use Rattle.surge.specs.declared.mesh.geometry.WholeSides.{WholeSides}
 use Rattle.surge.specs.Lent.{corners}
 use Rattle.surge.specs.Geometry.{nodesOf, sides, D, allNear}
 use Rattle.surge.specs.Rows.{allBelow}
@@ -65,7 +65,7 @@ refuse-requires-2 c κs = search needs
 returns : tie.Need-returns
 returns c =
     let near = c .before .before .before in
-    let d = kept (c .before .twice-area .ok) (c .before .twice-area .ensures ∙ ap (λ (s : Sides). D s) (its-sides (near .before))) in
+    let d = kept (c .before .twice-area .ok) (c .before .twice-area .ensures ∙ ap (λ (s : WholeSides). D s) (its-sides (near .before))) in
     c .tested .ensures
     ∙ ap (λ (v : ℤ). row (ltZ (pos 0) v) 5 (near .before .before .before .before .before .before .before .before .args .t)) d
     ∙ sym (shape-5 _ _ _ _ (here (near .before .before)) (sized near true (c .before .before .if2 .taken)))

@@ -1,0 +1,16 @@
+use lib.Ieee.{round, neg, ofBits}
+use Rattle.lists.specs.Scan.{decimal, minus}
+use Rattle.equations.specs.Outcomes.{speed}
+use Rattle.equations.proofs.outcomes.speed.Statement.{statement}
+use Rattle.equations.proofs.outcomes.speed.Tie as tie
+
+returns : tie.Need-returns
+unfolding speed decimal minus round neg ofBits
+returns c = rw (← c .before .in-range .ensures, c .if1 .taken)
+
+returns-2 : tie.Need-returns-2
+unfolding speed decimal minus round neg ofBits
+returns-2 c = rw (← c .before .in-range .ensures, c .if1 .left)
+
+pub speed-spec : {M : Type 1} → statement M
+speed-spec = tie.close (tie.spec (λ c κs. tt) returns returns-2)

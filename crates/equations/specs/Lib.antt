@@ -1,0 +1,5 @@
+pub mod Operations
+pub mod Constants
+pub mod Elevation
+pub mod Velocity
+pub mod Outcomes

@@ -1,0 +1,42 @@
+-- Document 01, row 13 of the refusal table: what becomes of a node, and the answer for it.
+use Prim.Native.Nat.{ℕ}
+use mathlib.Core.Bool.{Bool, cond}
+use lib.Ieee.{Float, le}
+use Rattle.lists.specs.Scan.{accepted, within, decimal, minus}
+use Rattle.lists.specs.declared.rows.Answer.{Answer}
+use Rattle.equations.specs.Operations.{_⊕_}
+use Rattle.equations.specs.Constants.{tenth}
+use Rattle.equations.specs.declared.Outcome.{Outcome}
+use Rattle.equations.specs.declared.Outcome.the-variants.{Accepted, Elevation, Column, East, North}
+
+-- a size that is not "beyond" `most`
+abbrev pub inSize : ℕ → Float → Bool
+inSize most v = within (minus most 1) v (decimal most 1)
+
+-- "z' beyond 30, H' below 0.1"; "node by node, size, then H'"
+unfoldable pub level : Float → Float → Outcome
+level h z′ =
+    let H′ = h ⊕ z′ in
+    cond (inSize 30 z′) (cond (le tenth H′) (Accepted z′) (Column H′)) (Elevation z′)
+
+-- "U' or V' beyond 20"
+unfoldable pub speed : Float → Outcome → Outcome
+speed v refusal = cond (inSize 20 v) (Accepted v) refusal
+
+abbrev pub east : Float → Outcome
+east U′ = speed U′ (East U′)
+
+abbrev pub north : Float → Outcome
+north V′ = speed V′ (North V′)
+
+-- "The offending value comes back with its node: z', H', U' or V'."
+abbrev pub offending : ℕ → Float → Answer
+offending node v = record { number = 13; place = node; value = v }
+
+-- "Where an answer is an enum, a definition sets out this paper's number and values for each of its cases."
+abbrev pub answerOf : Outcome → ℕ → Answer
+answerOf (Accepted v) node = accepted
+answerOf (Elevation z′) node = offending node z′
+answerOf (Column H′) node = offending node H′
+answerOf (East U′) node = offending node U′
+answerOf (North V′) node = offending node V′

@@ -1,0 +1,58 @@
+// Document 01, row 13 of the refusal table: what becomes of a node, and the answer for it.
+use super::Outcome;
+use lists::rows;
+ghost use mathlib.Core.Path.{_≡_};
+ghost use Rattle.equations.specs.Outcomes.{level, speed, east, north, answerOf};
+
+// z' in size, then H'.
+pub fn level(h: f64, z: f64) -> Outcome
+    ensures { λ r. ⌜ r ≡ level h z ⌝ }
+{
+    if rows::in_range(-30.0, z, 30.0) {
+        let column = h + z;
+        if 0.1 <= column {
+            Outcome::Accepted(z)
+        } else {
+            Outcome::Column(column)
+        }
+    } else {
+        Outcome::Elevation(z)
+    }
+}
+
+fn speed(v: f64, refusal: Outcome) -> Outcome
+    ensures { λ r. ⌜ r ≡ speed v refusal ⌝ }
+{
+    if rows::in_range(-20.0, v, 20.0) {
+        Outcome::Accepted(v)
+    } else {
+        refusal
+    }
+}
+
+pub fn east(u: f64) -> Outcome
+    ensures { λ r. ⌜ r ≡ east u ⌝ }
+{
+    speed(u, Outcome::East(u))
+}
+
+pub fn north(v: f64) -> Outcome
+    ensures { λ r. ⌜ r ≡ north v ⌝ }
+{
+    speed(v, Outcome::North(v))
+}
+
+pub fn answer(o: Outcome, node: usize) -> rows::Answer
+    ensures { λ r. ⌜ r ≡ answerOf o node ⌝ }
+{
+    match o {
+        Outcome::Accepted(_) => rows::accept(),
+        Outcome::Elevation(x) | Outcome::Column(x) | Outcome::East(x) | Outcome::North(x) => {
+            rows::Answer {
+                number: 13,
+                place: node,
+                value: x,
+            }
+        }
+    }
+}
