@@ -8,7 +8,7 @@ use native.Mathlib.Numerals.{add-one}
 use native.Mathlib.Omega.{arith}
 use borrow.Author.Tests.{eqb-true, eqb-false}
 use lib.Dec.{eqb}
-use lib.ListN.{length, getD, length-set}
+use lib.ListN.{length, getD, set, length-set}
 use lib.Seq.{getD-set-same, getD-set-other}
 use Rattle.lists.specs.Table.{table}
 use Rattle.lists.specs.Gather.{Three, Below, Adding, whole, plusIf, joined, gathered, addedAt, spread}
@@ -70,6 +70,15 @@ pub record AtMost (b : ℕ) (v : Three ℕ) : Type 0 where
 plus-le : (t : Bool) (s v b : ℕ) → v ≤ b → plusIf whole t s v ≤ s + b
 plus-le true s v b h = omega arith
 plus-le false s v b h = omega arith
+
+-- one addition raises no place by more than what is added
+pub added-le : (l : List ℕ) (i d v : ℕ) → i < length l → getD (addedAt whole 0 l i d) v 0 ≤ getD l v 0 + d
+unfolding addedAt
+added-le l i d v h = go (eqb v i) refl
+  where
+    go : (b : Bool) → eqb v i ≡ b → getD (set l i (getD l i 0 + d)) v 0 ≤ getD l v 0 + d
+    go true e = rw (eqb-true v i e, getD-set-same l i (getD l i 0 + d) 0 h) (omega arith)
+    go false e = rw (getD-set-other l i v (getD l i 0 + d) 0 (eqb-false v i e)) (omega arith)
 
 joined-le : (b : ℕ) (c v : Three ℕ) (i s : ℕ) → AtMost b v → joined whole c v i s ≤ s + 3 * b
 unfolding joined

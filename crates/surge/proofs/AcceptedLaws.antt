@@ -2,6 +2,7 @@
 use Prim.Native.Nat.{ℕ, zero, suc, _/_, _%_, _^_, _<_, _≤_}
 use mathlib.Core.Path.{_≡_, refl, sym, subst}
 use mathlib.Core.Bool.{Bool, true, false, _&&_}
+use mathlib.Core.List.{List}
 use native.Mathlib.Nat.{div-add-mod}
 use native.Mathlib.Omega.{arith}
 use borrow.Author.Tests.{ltb-true, leb-true, eqb-true}
@@ -66,23 +67,23 @@ above-zero (negsuc n) e = absurd (differ e)
     differ : false ≡ true → ⊥
     differ q = subst T (sym q) tt
 
-module _ (m : Mesh) (t : ℕ) (e : rows3to5 (m .x) (m .y) (m .tri) t .number ≡ 0) where
-  passed-3 : allBelow (corners (m .tri) t) (N m) ≡ true
+module _ (x y : List ℤ) (tri : List ℕ) (t : ℕ) (e : rows3to5 x y tri t .number ≡ 0) where
+  passed-3 : allBelow (corners tri t) (length x) ≡ true
   unfolding rows3to5 row3
   passed-3 = row-passed _ 2 t (then-first _ _ e)
 
-  passed-4 : allNear (sides (m .x) (m .y) (corners (m .tri) t)) ≡ true
+  passed-4 : allNear (sides x y (corners tri t)) ≡ true
   unfolding rows3to5 row4
   passed-4 = row-passed _ 3 t (then-first _ _ (then-rest _ _ e))
 
-  passed-5 : ltZ (pos 0) (D (sides (m .x) (m .y) (corners (m .tri) t))) ≡ true
+  passed-5 : ltZ (pos 0) (D (sides x y (corners tri t))) ≡ true
   unfolding rows3to5 row5
   passed-5 = row-passed _ 4 t (then-rest _ _ (then-rest _ _ e))
 
-  pub sound : Sound m t
+  pub sound : Sound x y tri t
   unfolding area
   sound =
-      let above = above-zero (D (sides (m .x) (m .y) (corners (m .tri) t))) passed-5 in
+      let above = above-zero (D (sides x y (corners tri t))) passed-5 in
       record {
         nodes = below-all _ _ passed-3;
         small = passed-4;
@@ -92,7 +93,7 @@ module _ (m : Mesh) (t : ℕ) (e : rows3to5 (m .x) (m .y) (m .tri) t .number ≡
       }
 
 -- each number of the triangle list is a node, where each triangle's corners are
-pub numbers-below : (m : Mesh) → Sized m → ((t : ℕ) → t < E m → Sound m t) → (j : ℕ) → j < length (m .tri) → getD (m .tri) j 0 < N m
+pub numbers-below : (m : Mesh) → Sized m → ((t : ℕ) → t < E m → Sound (m .x) (m .y) (m .tri) t) → (j : ℕ) → j < length (m .tri) → getD (m .tri) j 0 < N m
 numbers-below m z s j h =
     subst (λ (k : ℕ). getD (m .tri) k 0 < N m) (omega (arith, div-add-mod j 3)) (corner-below (j % 3) (omega arith))
   where
@@ -128,11 +129,11 @@ ranged p e =
     }
 
 -- ---- S
-sums-fit : (m : Mesh) → E m ≤ 8192 → ((t : ℕ) → t < E m → Sound m t) → (i : ℕ) → S m i ≤ 2 ^ 53
+sums-fit : (m : Mesh) → E m ≤ 8192 → ((t : ℕ) → t < E m → Sound (m .x) (m .y) (m .tri) t) → (i : ℕ) → S (m .x) (m .y) (m .tri) i ≤ 2 ^ 53
 sums-fit m l s i =
     omega (
       arith,
-      gathered-le 20000000000 (corners (m .tri)) (λ t. alike (area m t)) (E m) i
+      gathered-le 20000000000 (corners (m .tri)) (λ t. alike (area (m .x) (m .y) (m .tri) t)) (E m) i
           (λ k h. record { first = s k h .most; second = s k h .most; third = s k h .most }),
     )
 
@@ -147,7 +148,7 @@ module _ (rooms opening : Bool) (m : Mesh) (p : Parameters) (e : rows1to9 rooms 
       let e7 = then-rest _ _ e6 in
       let e8 = then-rest _ _ e7 in
       let z = sized rooms m (then-first _ _ e) (then-first _ _ e2) in
-      let s : (t : ℕ) → t < E m → Sound m t = λ t h. sound m t (scan-clean _ _ (then-first _ _ e3) t h) in
+      let s : (t : ℕ) → t < E m → Sound (m .x) (m .y) (m .tri) t = λ t h. sound (m .x) (m .y) (m .tri) t (scan-clean _ _ (then-first _ _ e3) t h) in
       record {
         sized = z;
         triangles = s;

@@ -2,7 +2,8 @@
 use Prim.Native.Nat.{ℕ, _*_, _^_, _<_, _≤_}
 use mathlib.Core.Path.{_≡_}
 use mathlib.Core.Bool.{true}
-use lib.IntN.{pos}
+use mathlib.Core.List.{List}
+use lib.IntN.{ℤ, pos}
 use lib.ListN.{length, getD}
 use lib.Ieee.{nan}
 use Rattle.lists.specs.Gather.{Below}
@@ -24,12 +25,12 @@ pub record Sized (m : Mesh) : Type 0 where
   pub most-triangles : E m ≤ 8192
 
 -- rows 3 to 5: a triangle's corners are nodes, its a and b are small, and its D is above 0 and at most 2·10^10
-pub record Sound (m : Mesh) (t : ℕ) : Type 0 where
-  pub nodes : Below (corners (m .tri) t) (N m)
-  pub small : allNear (sides (m .x) (m .y) (corners (m .tri) t)) ≡ true
-  pub turns : D (sides (m .x) (m .y) (corners (m .tri) t)) ≡ pos (area m t)
-  pub least : 1 ≤ area m t
-  pub most : area m t ≤ 20000000000
+pub record Sound (x y : List ℤ) (tri : List ℕ) (t : ℕ) : Type 0 where
+  pub nodes : Below (corners tri t) (length x)
+  pub small : allNear (sides x y (corners tri t)) ≡ true
+  pub turns : D (sides x y (corners tri t)) ≡ pos (area x y tri t)
+  pub least : 1 ≤ area x y tri t
+  pub most : area x y tri t ≤ 20000000000
 
 -- rows 7 and 8: a node is named, and its depth and kind are in range
 pub record Kept (m : Mesh) (i : ℕ) : Type 0 where
@@ -46,8 +47,8 @@ pub record Ranged (p : Parameters) : Type 0 where
 
 pub record Accepted (m : Mesh) (p : Parameters) : Type 0 where
   pub sized : Sized m
-  pub triangles : (t : ℕ) → t < E m → Sound m t
+  pub triangles : (t : ℕ) → t < E m → Sound (m .x) (m .y) (m .tri) t
   pub nodes : (i : ℕ) → i < N m → Kept m i
   pub parameters : Ranged p
   -- "a node's sum S of D over its triangles fits 53 bits"
-  pub sums : (i : ℕ) → S m i ≤ 2 ^ 53
+  pub sums : (i : ℕ) → S (m .x) (m .y) (m .tri) i ≤ 2 ^ 53

@@ -1,16 +1,16 @@
 -- Document 01, "Triangle geometry".
-use Prim.Native.Nat.{ℕ}
+use Prim.Native.Nat.{ℕ, _/_}
 use mathlib.Core.Bool.{Bool, _&&_}
 use mathlib.Core.List.{List}
 use lib.IntN.{ℤ, pos, natAbs, _-ℤ_, _*ℤ_}
 use lib.Dec.{leb}
-use lib.ListN.{getD}
+use lib.ListN.{length, getD}
 use lib.Ieee.{binary64, ofInt}
 use Rattle.lists.specs.Gather.{Three, alike, whole, gathered}
 use Rattle.surge.specs.declared.mesh.geometry.Corners.{Corners}
 use Rattle.surge.specs.declared.mesh.geometry.WholeSides.{WholeSides}
 use Rattle.equations.specs.declared.Sides.{Sides}
-use Rattle.surge.specs.Lent.{Mesh, E, corners}
+use Rattle.surge.specs.Lent.{corners}
 
 abbrev pub nodesOf : Corners → Three ℕ
 nodesOf c = record { first = c .n1; second = c .n2; third = c .n3 }
@@ -44,13 +44,14 @@ near v = leb (natAbs v) 100000
 unfoldable pub allNear : WholeSides → Bool
 allNear s = near (s .a1) && near (s .a2) && near (s .a3) && near (s .b1) && near (s .b2) && near (s .b3)
 
--- D of triangle t as a count: after row 5 it is above 0
-unfoldable pub area : Mesh → ℕ → ℕ
-area m t = natAbs (D (sides (m .x) (m .y) (corners (m .tri) t)))
+module _ (x y : List ℤ) (tri : List ℕ) where
+  -- D of triangle t as a count: after row 5 it is above 0
+  unfoldable pub area : ℕ → ℕ
+  area t = natAbs (D (sides x y (corners tri t)))
 
--- "a node's sum S of D over its triangles"
-abbrev pub S : Mesh → ℕ → ℕ
-S m i = gathered whole (corners (m .tri)) (λ t. alike (area m t)) (E m) i
+  -- "a node's sum S of D over its triangles"
+  abbrev pub S : ℕ → ℕ
+  S i = gathered whole (corners tri) (λ t. alike (area t)) (length tri / 3) i
 
 -- "all become floats without loss"
 unfoldable pub floats : WholeSides → Sides

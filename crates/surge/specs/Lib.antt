@@ -3,3 +3,7 @@ pub mod Geometry
 pub mod Rows
 pub mod Accepted
 pub mod Open
+pub mod State
+pub mod Equations
+pub mod Step
+pub mod Passes

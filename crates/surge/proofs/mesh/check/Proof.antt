@@ -82,7 +82,7 @@ named-requires c κs =
     let e = after-shapes c in
     let l = after-lent e in
     let m = net (start l) in
-    let s : (t : ℕ) → t < E m → Sound m t = λ t h. sound m t (scan-clean _ _ (shapes-fine e) t h) in
+    let s : (t : ℕ) → t < E m → Sound (m .x) (m .y) (m .tri) t = λ t h. sound (m .x) (m .y) (m .tri) t (scan-clean _ _ (shapes-fine e) t h) in
     (lengths l .most-nodes, numbers-below m (lengths l) s)
 
 returns-4 : tie.Need-returns-4

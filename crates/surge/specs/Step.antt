@@ -1,0 +1,103 @@
+-- Document 01: a step. Its answer is the table's, and what it leaves goes by the answer.
+use Prim.Native.Nat.{ℕ, _*_}
+use mathlib.Core.Bool.{Bool, false, cond, _&&_}
+use mathlib.Core.List.{List}
+use lib.Dec.{eqb}
+use lib.ListN.{length}
+use lib.Ieee.{Float}
+use Rattle.lists.specs.declared.rows.Answer.{Answer}
+use Rattle.lists.specs.Table.{table}
+use Rattle.lists.specs.Runs.{isRuns}
+use Rattle.lists.specs.Scan.{_then_, scan, plus0}
+use Rattle.equations.specs.declared.Parameters.{Parameters}
+use Rattle.equations.specs.Outcomes.{level, east, north, answerOf}
+use Rattle.surge.specs.declared.Clock.{Clock}
+use Rattle.surge.specs.declared.Forcing.{Forcing}
+use Rattle.surge.specs.declared.Stepped.{Stepped}
+use Rattle.surge.specs.Lent.{Mesh, N}
+use Rattle.surge.specs.Rows.{rows1to9}
+use Rattle.surge.specs.State.{row10, row11, row12, windOf, advanced}
+use Rattle.surge.specs.Equations.{Sea, sea, node, rise, flowAt, nextState}
+
+-- what a step is given: a mesh and parameters, the run's state and clock, and a forcing
+pub record Given : Type 0 where
+  pub mesh : Mesh
+  pub p : Parameters
+  pub state : List Float
+  pub clock : Clock
+  pub forcing : Forcing
+
+abbrev pub given : Mesh → Parameters → List Float → Clock → Forcing → Given
+given m p state k f = record { mesh = m; p = p; state = state; clock = k; forcing = f }
+
+abbrev pub seaOf : Given → Sea
+seaOf g = sea (g .p) (windOf (g .clock)) (g .mesh .x) (g .mesh .y) (g .mesh .tri) (g .mesh .h) (g .state)
+
+-- | 13 | z' beyond 30, H' below 0.1, U' or V' beyond 20 | node |
+-- "all z' first (node by node, size, then H')"
+unfoldable pub row13Level : Sea → List ℕ → Forcing → ℕ → Answer
+row13Level s kind f i = answerOf (level (node s i .h) (rise s kind f i)) i
+
+-- "then, node by node, U' before V'"
+unfoldable pub row13Flow : Sea → List ℕ → Forcing → ℕ → Answer
+row13Flow s kind f i = answerOf (east (flowAt s kind f i .u)) i then answerOf (north (flowAt s kind f i .v)) i
+
+-- ---- the equations alone, with no refusal: the state and the clock that they give
+pub record Held : Type 0 where
+  pub state : List Float
+  pub clock : Clock
+
+unfoldable pub advance : Given → Held
+advance g = record { state = nextState (seaOf g) (g .mesh .kind) (g .forcing); clock = advanced (g .clock) (g .forcing) }
+
+-- ---- the answer
+-- "A step goes on with 10, 11, 12": what is tested before anything is worked out. rooms: the call's slices have their lengths
+unfoldable pub before13 : Bool → Given → Answer
+before13 rooms g =
+    rows1to9 rooms false (g .mesh) (g .p)
+    then scan (row10 (g .mesh .h) (g .state)) (N (g .mesh))
+    then row11 (g .clock)
+    then row12 (g .clock) (g .forcing)
+
+-- "then 13"
+unfoldable pub row13 : Given → Answer
+row13 g =
+    scan (row13Level (seaOf g) (g .mesh .kind) (g .forcing)) (N (g .mesh))
+    then scan (row13Flow (seaOf g) (g .mesh .kind) (g .forcing)) (N (g .mesh))
+
+-- ---- what a step leaves
+-- "The next state goes to a second lent slice of 4N; work room is 3N binary64 and N 64-bit unsigned."
+pub record Rooms : Type 0 where
+  pub next : List Float
+  pub work : List Float
+  pub sums : List ℕ
+
+abbrev pub roomy : List Float → Rooms → ℕ → Bool
+roomy state r n = isRuns (length state) 4 n && isRuns (length (r .next)) 4 n && isRuns (length (r .work)) 3 n && isRuns (length (r .sums)) 1 n
+
+-- "all zero after an accepted step or a 13"
+abbrev pub cleared : List Float → ℕ → Rooms
+cleared next n = record { next = next; work = table (3 * n) (λ _. plus0); sums = table n (λ _. 0) }
+
+pub record StepOut : Type 0 where
+  pub stepped : Stepped
+  pub rooms : Rooms
+
+abbrev pub stepOut : Stepped → List Float → List Float → List ℕ → StepOut
+stepOut s next work sums = record { stepped = s; rooms = record { next = next; work = work; sums = sums } }
+
+-- "A refusal leaves state, next state, text and clock as found. Work room is untouched by every refusal but 13"
+abbrev pub refusedBefore : Given → Rooms → Answer → StepOut
+refusedBefore g r a = record { stepped = record { answer = a; clock = g .clock }; rooms = r }
+
+abbrev pub refusedBy13 : Given → Rooms → Answer → StepOut
+refusedBy13 g r a = record { stepped = record { answer = a; clock = g .clock }; rooms = cleared (r .next) (N (g .mesh)) }
+
+abbrev pub wentOn : Given → Answer → StepOut
+wentOn g a = record { stepped = record { answer = a; clock = advance g .clock }; rooms = cleared (advance g .state) (N (g .mesh)) }
+
+unfoldable pub stepOf : Given → Rooms → StepOut
+stepOf g r =
+    let first = before13 (roomy (g .state) r (N (g .mesh))) g in
+    let last = row13 g in
+    cond (eqb (first .number) 0) (cond (eqb (last .number) 0) (wentOn g last) (refusedBy13 g r last)) (refusedBefore g r first)

@@ -1,0 +1,135 @@
+// "Elevation": R and S of every node in one pass over the triangles, then z'.
+use super::super::mesh::geometry;
+use super::super::mesh::geometry::Corners;
+use super::super::mesh::geometry::WholeSides;
+use super::state;
+use super::sums;
+use equations::Node;
+use equations::Outcome;
+use equations::Parameters;
+use equations::Shares;
+use equations::Wind;
+use equations::elevation;
+use equations::outcomes;
+use lists::rows;
+use lists::rows::Answer;
+ghost use mathlib.Core.Path.{_≡_};
+ghost use mathlib.Core.Bool.{true};
+ghost use Prim.Native.Nat.{ℕ, _+_, _*_, _^_, _<_, _≤_};
+ghost use lib.ListN.{length, getD};
+ghost use lib.IntN.{natAbs, pos};
+ghost use lib.Ieee.{nan};
+ghost use Rattle.lists.specs.Table.{table};
+ghost use Rattle.lists.specs.Scan.{scan, plus0};
+ghost use Rattle.lists.specs.Gather.{Below, alike, whole, addedAt, spread};
+ghost use Rattle.equations.specs.Elevation.{shares};
+ghost use Rattle.equations.specs.Outcomes.{level};
+ghost use Rattle.surge.specs.Geometry.{nodesOf, D, allNear, floats};
+ghost use Rattle.surge.specs.State.{nodeOf};
+ghost use Rattle.surge.specs.Equations.{Sea, sea, count, threeOf, floating, R, Sums, riseOf};
+ghost use Rattle.surge.specs.Passes.{Ready, Rising, rising, RisingFits, riseIn, levelIn};
+
+// D of a triangle that rows 4 and 5 accept, as a count.
+fn area_of(s: WholeSides) -> u64
+    requires { ⌜ (allNear s ≡ true) × (D s ≡ pos (natAbs (D s))) ⌝ }
+    ensures { λ r. ⌜ r ≡ natAbs (D s) ⌝ }
+{
+    geometry::twice_area(s) as u64
+}
+
+// What the corners of a triangle receive.
+fn shares_of(p: Parameters, w: Wind, c: Corners, s: WholeSides, h: &[f64], state: &[f64]) -> Shares
+    requires { ⌜ (Below (nodesOf c) (length (now h))) × (length (now state) ≡ 4 * length (now h)) ⌝ }
+    requires { ⌜ allNear s ≡ true ⌝ }
+    ensures { λ r. ⌜ r ≡ shares p w (nodeOf (now (h .entry)) (now (state .entry)) (c .n1)) (nodeOf (now (h .entry)) (now (state .entry)) (c .n2)) (nodeOf (now (h .entry)) (now (state .entry)) (c .n3)) (floats s) ⌝ }
+{
+    let n1 = state::node_of(h, state, c.n1);
+    let n2 = state::node_of(h, state, c.n2);
+    let n3 = state::node_of(h, state, c.n3);
+    elevation::shares(p, w, n1, n2, n3, geometry::floats_of(s))
+}
+
+// R and S of every node, from zero.
+pub(crate) fn assemble(
+    r: &mut [f64],
+    sums: &mut [u64],
+    p: Parameters,
+    w: Wind,
+    x: &[i32],
+    y: &[i32],
+    tri: &[u16],
+    h: &[f64],
+    state: &[f64],
+)
+    ghost { Sea }
+    requires { λ s. ⌜ sea p w (now x) (now y) (now tri) (now h) (now state) ≡ s ⌝ }
+    requires { λ s. ⌜ Ready s ⌝ }
+    requires { λ s. ⌜ (now r ≡ table (count s) (λ _. plus0)) × (now sums ≡ table (count s) (λ _. 0)) ⌝ }
+    ensures { λ s _. ⌜ (now (r .exit) ≡ table (count s) (R s)) × (now (sums .exit) ≡ table (count s) (Sums s)) ⌝ }
+{
+    let e = tri.len() / 3;
+    for t in 0..e {
+        let c = geometry::corners_at(tri, t);
+        let s = geometry::sides_at(x, y, c);
+        sums::spread(r, c, shares_of(p, w, c, s, h, state));
+        sums::spread_area(sums, c, area_of(s));
+    }
+}
+
+// z' of a node, from its sums S and R.
+fn rise_of(p: Parameters, kind: u8, elevation: f64, c: Node, s: u64, r: f64) -> f64
+    requires { ⌜ s ≤ 2 ^ 53 ⌝ }
+    ensures { λ z. ⌜ z ≡ riseOf p kind elevation c s r ⌝ }
+{
+    if kind == 1 {
+        return elevation;
+    }
+    let l = elevation::lumped(geometry::exact_sum(s), p.dt);
+    elevation::risen(p, l, c.z, c.z - c.earlier, r)
+}
+
+// What becomes of node i, whose sum R is r.
+fn outcome_at(
+    p: Parameters,
+    elevation: f64,
+    kind: &[u8],
+    h: &[f64],
+    state: &[f64],
+    sums: &[u64],
+    r: f64,
+    i: usize,
+) -> Outcome
+    requires { ⌜ (i < length (now h)) × (length (now state) ≡ 4 * length (now h)) × (length (now kind) ≡ length (now h)) ⌝ }
+    requires { ⌜ (length (now sums) ≡ length (now h)) × (getD (now sums) i 0 ≤ 2 ^ 53) ⌝ }
+    ensures { λ o. ⌜ o ≡ level (getD (now (h .entry)) i nan) (riseOf p (getD (now (kind .entry)) i 0) elevation (nodeOf (now (h .entry)) (now (state .entry)) i) (getD (now (sums .entry)) i 0) r) ⌝ }
+{
+    let c = state::node_of(h, state, i);
+    outcomes::level(c.h, rise_of(p, kind[i], elevation, c, sums[i], r))
+}
+
+// R of every node becomes its z', up to the first node that row 13 refuses.
+pub(crate) fn rises(
+    r: &mut [f64],
+    p: Parameters,
+    elevation: f64,
+    kind: &[u8],
+    h: &[f64],
+    state: &[f64],
+    sums: &[u64],
+) -> Answer
+    ghost { Rising }
+    requires { λ w. ⌜ rising p elevation (now kind) (now h) (now state) (now sums) (now r) ≡ w ⌝ }
+    requires { λ w. ⌜ RisingFits w ⌝ }
+    ensures { λ w a. ⌜ a ≡ scan (levelIn w) (length (w .h)) ⌝ }
+    ensures { λ w a. ⌜ (a .number ≡ 0 → now (r .exit) ≡ table (length (w .h)) (riseIn w)) ⌝ }
+{
+    for i in 0..h.len() {
+        let o = outcome_at(p, elevation, kind, h, state, sums, r[i], i);
+        if let Outcome::Accepted(z) = o {
+            r[i] = z;
+        } else {
+            return outcomes::answer(o, i);
+        }
+    }
+    rows::accept()
+}
