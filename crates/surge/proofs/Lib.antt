@@ -6,3 +6,4 @@ pub mod OpenLaws
 pub mod StateLaws
 pub mod PassLaws
 pub mod NodeLaws
+pub mod RoomLaws

@@ -1,18 +1,28 @@
 -- What the passes of a step ask and give, for the contracts of the private functions that make them. The step's own contract cites none of it.
-use Prim.Native.Nat.{ℕ, _*_, _^_, _<_, _≤_}
+use Prim.Native.Nat.{ℕ, _*_, _/_, _^_, _<_, _≤_}
 use mathlib.Core.Path.{_≡_}
-use mathlib.Core.List.{List}
+use mathlib.Core.List.{List, [], _∷_}
+use lib.IntN.{ℤ}
 use lib.ListN.{length, getD}
 use lib.Ieee.{Float, nan}
 use Rattle.lists.specs.declared.rows.Answer.{Answer}
-use Rattle.lists.specs.Scan.{_then_}
+use Rattle.lists.specs.Table.{table, upTo}
+use Rattle.lists.specs.Runs.{run, room}
+use Rattle.lists.specs.Gather.{Three, alike, gathered}
 use Rattle.equations.specs.declared.Parameters.{Parameters}
 use Rattle.equations.specs.declared.Wind.{Wind}
 use Rattle.equations.specs.declared.Flow.{Flow}
-use Rattle.equations.specs.Outcomes.{level, east, north, answerOf}
+use Rattle.equations.specs.declared.Sides.{Sides}
+use Rattle.equations.specs.Operations.{_⊕_}
+use Rattle.equations.specs.Elevation.{slope}
+use Rattle.equations.specs.Outcomes.{level, answerOf}
+use Rattle.surge.specs.declared.step.velocity.Slope.{Slope}
+use Rattle.surge.specs.Lent.{corners}
+use Rattle.surge.specs.Geometry.{sides, floats}
 use Rattle.surge.specs.Accepted.{Sound}
-use Rattle.surge.specs.State.{nodeOf}
-use Rattle.surge.specs.Equations.{Sea, count, triangles, riseOf, flowOf, pushOf}
+use Rattle.surge.specs.State.{inRun, nodeOf}
+use Rattle.surge.specs.Step.{speedOf}
+use Rattle.surge.specs.Equations.{Sea, count, triangles, floating, riseOf, flowOf, pushOf}
 
 -- the lengths and the triangles of a sea that rows 1 to 10 accept
 pub record Ready (s : Sea) : Type 0 where
@@ -49,6 +59,50 @@ pub record RisingFits (w : Rising) : Type 0 where
   pub r : length (w .r) ≡ length (w .h)
   pub exact : (i : ℕ) → getD (w .sums) i 0 ≤ 2 ^ 53
 
+-- ---- from z' to Px and Py
+pub record Sloping : Type 0 where
+  pub x : List ℤ
+  pub y : List ℤ
+  pub tri : List ℕ
+  pub state : List Float
+  pub rise : List Float
+
+abbrev pub sloping : List ℤ → List ℤ → List ℕ → List Float → List Float → Sloping
+sloping x y tri state rise = record { x = x; y = y; tri = tri; state = state; rise = rise }
+
+-- z + z' of node i, of n
+abbrev pub bothOf : ℕ → List Float → List Float → ℕ → Float
+bothOf n state rise i = inRun n 1 state i ⊕ getD rise i nan
+
+-- what a triangle with these corners and sides adds to Px and to Py
+unfoldable pub slopeOf : ℕ → List Float → List Float → Three ℕ → Sides → Slope
+slopeOf n state rise c s =
+    let b1 = bothOf n state rise (c .first) in
+    let b2 = bothOf n state rise (c .second) in
+    let b3 = bothOf n state rise (c .third) in
+    record { x = slope b1 b2 b3 (s .b1) (s .b2) (s .b3); y = slope b1 b2 b3 (s .a1) (s .a2) (s .a3) }
+
+unfoldable pub slopeIn : Sloping → ℕ → Slope
+slopeIn w t = slopeOf (length (w .x)) (w .state) (w .rise) (corners (w .tri) t) (floats (sides (w .x) (w .y) (corners (w .tri) t)))
+
+-- Px and Py over the triangles below t
+abbrev pub PxIn : Sloping → ℕ → ℕ → Float
+PxIn w t = gathered floating (corners (w .tri)) (λ k. alike (slopeIn w k .x)) t
+
+abbrev pub PyIn : Sloping → ℕ → ℕ → Float
+PyIn w t = gathered floating (corners (w .tri)) (λ k. alike (slopeIn w k .y)) t
+
+-- the work room with z' in its first run, and the two sums in the others
+abbrev pub slopeRoom : Sloping → ℕ → List Float
+slopeRoom w t = room (w .rise ∷ table (length (w .x)) (PxIn w t) ∷ table (length (w .x)) (PyIn w t) ∷ [])
+
+pub record SlopingFits (w : Sloping) : Type 0 where
+  pub y : length (w .y) ≡ length (w .x)
+  pub tri : length (w .tri) ≡ 3 * (length (w .tri) / 3)
+  pub state : length (w .state) ≡ 4 * length (w .x)
+  pub rise : length (w .rise) ≡ length (w .x)
+  pub sound : (t : ℕ) → t < length (w .tri) / 3 → Sound (w .x) (w .y) (w .tri) t
+
 -- ---- from z', Px and Py to U' and V'
 pub record Moving : Type 0 where
   pub p : Parameters
@@ -68,4 +122,28 @@ flowIn w i =
     (pushOf (nodeOf (w .h) (w .state) i) (w .wind) (w .new) (getD (w .sums) i 0) (getD (w .rise) i nan) (getD (w .px) i nan) (getD (w .py) i nan))
 
 unfoldable pub speedIn : Moving → ℕ → Answer
-speedIn w i = answerOf (east (flowIn w i .u)) i then answerOf (north (flowIn w i .v)) i
+speedIn w i = speedOf (flowIn w i) i
+
+abbrev pub moving : Parameters → Wind → Wind → List ℕ → List Float → List Float → List ℕ → List Float → Moving
+moving p w new kind h state sums work = record {
+  p = p;
+  wind = w;
+  new = new;
+  kind = kind;
+  h = h;
+  state = state;
+  sums = sums;
+  rise = run (length h) 0 work;
+  px = run (length h) 1 work;
+  py = run (length h) 2 work;
+}
+
+pub record MovingFits (w : Moving) : Type 0 where
+  pub kind : length (w .kind) ≡ length (w .h)
+  pub state : length (w .state) ≡ 4 * length (w .h)
+  pub sums : length (w .sums) ≡ length (w .h)
+  pub exact : (i : ℕ) → getD (w .sums) i 0 ≤ 2 ^ 53
+
+-- the work room with z' in its first run, and U' and V' of the first k nodes in the others
+abbrev pub flowRoom : Moving → ℕ → List Float
+flowRoom w k = room (w .rise ∷ upTo k (λ i. flowIn w i .u) (w .px) ∷ upTo k (λ i. flowIn w i .v) (w .py) ∷ [])

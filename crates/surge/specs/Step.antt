@@ -10,6 +10,7 @@ use Rattle.lists.specs.Table.{table}
 use Rattle.lists.specs.Runs.{isRuns}
 use Rattle.lists.specs.Scan.{_then_, scan, plus0}
 use Rattle.equations.specs.declared.Parameters.{Parameters}
+use Rattle.equations.specs.declared.Flow.{Flow}
 use Rattle.equations.specs.Outcomes.{level, east, north, answerOf}
 use Rattle.surge.specs.declared.Clock.{Clock}
 use Rattle.surge.specs.declared.Forcing.{Forcing}
@@ -39,8 +40,11 @@ unfoldable pub row13Level : Sea → List ℕ → Forcing → ℕ → Answer
 row13Level s kind f i = answerOf (level (node s i .h) (rise s kind f i)) i
 
 -- "then, node by node, U' before V'"
+unfoldable pub speedOf : Flow → ℕ → Answer
+speedOf v i = answerOf (east (v .u)) i then answerOf (north (v .v)) i
+
 unfoldable pub row13Flow : Sea → List ℕ → Forcing → ℕ → Answer
-row13Flow s kind f i = answerOf (east (flowAt s kind f i .u)) i then answerOf (north (flowAt s kind f i .v)) i
+row13Flow s kind f i = speedOf (flowAt s kind f i) i
 
 -- ---- the equations alone, with no refusal: the state and the clock that they give
 pub record Held : Type 0 where

@@ -2,3 +2,4 @@
 pub(crate) mod elevation;
 pub(crate) mod state;
 pub(crate) mod sums;
+pub(crate) mod velocity;
