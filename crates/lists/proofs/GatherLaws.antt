@@ -61,6 +61,13 @@ module _ {A : Type 0} (add : Adding A) (none : A) where
       → spread add none (corners e) (give e) (table n (gathered add corners give e)) ≡ table n (gathered add corners give (e + 1))
   gather-more n corners give e p = rw (add-one e) (gather-suc n corners give e p)
 
+-- what the triangles give decides a sum
+pub gathered-same : {A : Type 0} (add : Adding A) (corners : ℕ → Three ℕ) (f g : ℕ → Three A) (e i : ℕ) → ((k : ℕ) → k < e → f k ≡ g k)
+    → gathered add corners f e i ≡ gathered add corners g e i
+unfolding gathered
+gathered-same add corners f g zero i h = refl
+gathered-same add corners f g (suc e) i h = λ j. joined add (corners e) (h e (omega arith) j) i (gathered-same add corners f g e i (λ k l. h k (omega arith)) j)
+
 -- ---- whole numbers
 pub record AtMost (b : ℕ) (v : Three ℕ) : Type 0 where
   pub first : v .first ≤ b

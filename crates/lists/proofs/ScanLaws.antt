@@ -68,6 +68,11 @@ scan-clean f zero e k l = absurd (not-suc-le-zero l)
 scan-clean f (suc n) e zero l = then-first (f 0) (scan (λ k. f (suc k)) n) e
 scan-clean f (suc n) e (suc k) l = scan-clean (λ k. f (suc k)) n (then-rest (f 0) (scan (λ k. f (suc k)) n) e) k (omega arith)
 
+pub scan-same : (f g : ℕ → Answer) (n : ℕ) → ((k : ℕ) → k < n → f k ≡ g k) → scan f n ≡ scan g n
+unfolding scan
+scan-same f g zero h = refl
+scan-same f g (suc n) h = λ i. h 0 (omega arith) i then scan-same (λ k. f (suc k)) (λ k. g (suc k)) n (λ k l. h (suc k) (omega arith)) i
+
 -- ---- some place
 or-true : (b : Bool) → (b || true) ≡ true
 or-true true = refl

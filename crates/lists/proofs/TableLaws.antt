@@ -1,9 +1,10 @@
 -- Laws of `table`, `upTo` and `copied`.
 use Prim.Native.Nat.{ℕ, zero, suc, _+_, _<_, _≤_}
 use mathlib.Core.Path.{_≡_, refl, sym, ap, _∙_}
-use mathlib.Core.List.{List, [], _∷_, append-nil}
+use mathlib.Core.List.{List, [], _∷_, _++_, append-nil}
 use mathlib.Core.Logic.{_⊎_, inl, inr, ⊎-elim}
-use native.Mathlib.Nat.{not-suc-le-zero, le-of-suc-le-suc}
+use native.Mathlib.Nat.{not-suc-le-zero, le-of-suc-le-suc, zero-add, suc-add}
+use native.Mathlib.Omega.{arith}
 use native.Mathlib.Numerals.{add-one}
 use lib.ListN.{length, getD, set}
 use lib.Seq.{ext-getD, take-length, drop-length}
@@ -25,6 +26,17 @@ module _ {A : Type 0} where
   pub is-table : (d : A) (n : ℕ) (f : ℕ → A) (l : List A) → length l ≡ n → ((i : ℕ) → i < n → getD l i d ≡ f i) → l ≡ table n f
   is-table d n f l e h =
       ext-getD d l (table n f) (e ∙ sym (length-table n f)) (λ i p. h i (rw e at p) ∙ sym (getD-table n f i d (rw e at p)))
+
+  pub table-same : (n : ℕ) (f g : ℕ → A) → ((i : ℕ) → i < n → f i ≡ g i) → table n f ≡ table n g
+  unfolding table
+  table-same zero f g h = refl
+  table-same (suc n) f g h = λ j. h 0 (omega arith) j ∷ table-same n (λ k. f (suc k)) (λ k. g (suc k)) (λ i l. h (suc i) (omega arith)) j
+
+  -- the same at each place
+  pub table-join : (n m : ℕ) (c : A) → table n (λ _. c) ++ table m (λ _. c) ≡ table (n + m) (λ _. c)
+  unfolding table
+  table-join zero m c = rw (zero-add m)
+  table-join (suc n) m c = rw (suc-add n m) (ap (λ (t : List A). c ∷ t) (table-join n m c))
 
   -- ---- a loop that writes the places 0, 1, .. in turn
   pub up-none : (f : ℕ → A) (l : List A) → upTo 0 f l ≡ l

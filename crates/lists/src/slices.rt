@@ -25,6 +25,16 @@ pub fn clear(s: &mut [f64])
     }
 }
 
+// Every place 0.
+pub fn clear_whole(s: &mut [u64])
+    ensures { λ _. ⌜ now (s .exit) ≡ table (length (now (s .entry))) (λ _. 0) ⌝ }
+{
+    let n = s.len();
+    for i in 0..n {
+        s[i] = 0;
+    }
+}
+
 // As many places as both have.
 pub fn copy(to: &mut [f64], from: &[f64])
     ensures { λ _. ⌜ now (to .exit) ≡ copied (now (from .entry)) (now (to .entry)) ⌝ }

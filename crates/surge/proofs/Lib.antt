@@ -7,3 +7,5 @@ pub mod StateLaws
 pub mod PassLaws
 pub mod NodeLaws
 pub mod RoomLaws
+pub mod SolveLaws
+pub mod StepLaws

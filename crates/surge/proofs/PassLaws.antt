@@ -16,7 +16,7 @@ use Rattle.lists.proofs.TableLaws.{length-table, getD-table, up-none, up-more, 
 use Rattle.lists.proofs.GatherLaws.{gather-none, gather-more, gathered-le}
 use Rattle.equations.specs.declared.Flow.{Flow}
 use Rattle.equations.specs.declared.Sides.{Sides}
-use Rattle.surge.specs.declared.step.velocity.Slope.{Slope}
+use Rattle.surge.specs.declared.stepping.velocity.Slope.{Slope}
 use Rattle.surge.specs.Lent.{corners}
 use Rattle.surge.specs.Geometry.{sides, area, floats}
 use Rattle.surge.specs.State.{nodeOf}

@@ -1,14 +1,18 @@
 -- The work room as three runs: what is read and written of each, as the code indexes and lends it.
-use Prim.Native.Nat.{ℕ, _+_, _-_, _*_, _<_}
+use Prim.Native.Nat.{ℕ, _+_, _-_, _*_, _<_, _≤_}
 use mathlib.Core.Path.{_≡_, sym, ap, _∙_}
-use mathlib.Core.List.{List, [], _∷_}
-use native.Mathlib.Nat.{zero-mul, one-mul}
+use mathlib.Core.List.{List, [], _∷_, _++_, append-nil}
+use native.Mathlib.Nat.{zero-mul, one-mul, sub-zero}
 use native.Mathlib.Omega.{arith}
-use borrow.Rule.Slice.PartMut.{midOf, putMid}
-use lib.ListN.{length, getD, set, length-set}
+use borrow.Rule.Slice.PartMut.{midOf, putMid, postOf, post-is}
+use lib.ListN.{length, getD, set, take, drop, length-append, length-drop, length-set, drop-of-length-le}
+use lib.Seq.{take-at, drop-at, length-take-le}
 use lib.Ieee.{Float}
 use Rattle.lists.specs.Table.{table}
 use Rattle.lists.specs.Runs.{run, runs, room, Even}
+use Rattle.lists.specs.Scan.{plus0}
+use Rattle.lists.proofs.TableLaws.{length-table, table-join}
+use Rattle.surge.specs.Passes.{zeros}
 use Rattle.lists.proofs.RunLaws.{room-length, run-of, room-read, room-set, lent-run, put-run, runs-even, room-of-runs}
 
 -- ---- a room of three runs
@@ -90,3 +94,53 @@ module _ (n : ℕ) (l : List Float) (e : length l ≡ 3 * n) where
 
   pub third-long : length (run n 2 l) ≡ n
   third-long = all-even .1 .1 .0
+
+-- ---- a cleared room, whose first run is lent as a part and written
+module _ (n : ℕ) where
+  zero-room : table (3 * n) (λ _. plus0) ≡ zeros n ++ (zeros n ++ zeros n)
+  zero-room =
+      let thrice : n + (n + n) ≡ 3 * n = omega arith in
+      sym (ap (λ (l : List Float). zeros n ++ l) (table-join n n plus0) ∙ table-join n (n + n) plus0 ∙ ap (λ (k : ℕ). table k (λ _. plus0)) thrice)
+
+  module _ (l : List Float) (e : l ≡ table (length l) (λ _. plus0)) (h : length l ≡ 3 * n) where
+    cleared : l ≡ zeros n ++ (zeros n ++ zeros n)
+    cleared = e ∙ ap (λ (k : ℕ). table k (λ _. plus0)) h ∙ zero-room
+
+    pub front-zero : take (n - 0) l ≡ zeros n
+    front-zero = ap (take (n - 0)) cleared ∙ take-at (zeros n) (zeros n ++ zeros n) (n - 0) (length-table n _ ∙ sym (sub-zero n))
+
+    pub front-put : (a : List Float) → a ++ postOf 0 (n - 0) l ≡ room (a ∷ zeros n ∷ zeros n ∷ [])
+    unfolding room
+    front-put a =
+        ap (λ (m : List Float). a ++ m) (ap (drop (n - 0)) cleared ∙ drop-at (zeros n) (zeros n ++ zeros n) (n - 0) (length-table n _ ∙ sym (sub-zero n)))
+        ∙ ap (λ (m : List Float). a ++ (zeros n ++ m)) (sym (append-nil (zeros n)))
+
+-- ---- the next state: its first n places, and then the rest, lent as parts and written
+pub two-fills : (n : ℕ) (l c d : List Float) → length l ≡ 4 * n → length c ≡ n → putMid n (4 * n - n) (c ++ postOf 0 (n - 0) l) d ≡ c ++ d
+two-fills n l c d el ec =
+    let m = c ++ postOf 0 (n - 0) l in
+    let le : n ≤ 4 * n = omega arith in
+    let short : length m ≤ 4 * n = simp (length-append, length-drop) (omega arith) in
+    let none : postOf n (4 * n - n) m ≡ [] = post-is n (4 * n) m le ∙ drop-of-length-le m {i = 4 * n} short in
+    (λ i. take-at c (postOf 0 (n - 0) l) n ec i ++ (d ++ none i)) ∙ ap (λ (r : List Float). c ++ r) (append-nil d)
+
+-- each part is as long as what is copied into it
+module _ (n : ℕ) (next state : List Float) (en : length next ≡ 4 * n) (es : length state ≡ 4 * n) where
+  pub old-z : take (2 * n - n) (drop n state) ≡ run n 1 state
+  old-z = λ i. take (width i) (drop (sym (one-mul n) i) state)
+    where
+      width : 2 * n - n ≡ n
+      width = omega arith
+
+  pub z-long : length (run n 1 state) ≡ n
+  z-long = length-take-le n (drop (1 * n) state) (simp length-drop (omega (arith, one-mul n)))
+
+  pub front-long : length (take (n - 0) next) ≡ n
+  front-long = length-take-le (n - 0) next (omega arith) ∙ sub-zero n
+
+pub rest-long : (n : ℕ) (l c : List Float) → length l ≡ 4 * n → length c ≡ n → length (midOf n (4 * n - n) (c ++ postOf 0 (n - 0) l)) ≡ 3 * n
+rest-long n l c el ec =
+    length-take-le (4 * n - n) (drop n (c ++ postOf 0 (n - 0) l)) (simp (length-drop, length-append) (omega arith)) ∙ thrice
+  where
+    thrice : 4 * n - n ≡ 3 * n
+    thrice = omega arith

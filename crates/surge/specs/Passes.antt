@@ -8,6 +8,7 @@ use lib.Ieee.{Float, nan}
 use Rattle.lists.specs.declared.rows.Answer.{Answer}
 use Rattle.lists.specs.Table.{table, upTo}
 use Rattle.lists.specs.Runs.{run, room}
+use Rattle.lists.specs.Scan.{_then_, scan, plus0}
 use Rattle.lists.specs.Gather.{Three, alike, gathered}
 use Rattle.equations.specs.declared.Parameters.{Parameters}
 use Rattle.equations.specs.declared.Wind.{Wind}
@@ -16,13 +17,14 @@ use Rattle.equations.specs.declared.Sides.{Sides}
 use Rattle.equations.specs.Operations.{_⊕_}
 use Rattle.equations.specs.Elevation.{slope}
 use Rattle.equations.specs.Outcomes.{level, answerOf}
-use Rattle.surge.specs.declared.step.velocity.Slope.{Slope}
+use Rattle.surge.specs.declared.Forcing.{Forcing}
+use Rattle.surge.specs.declared.stepping.velocity.Slope.{Slope}
 use Rattle.surge.specs.Lent.{corners}
 use Rattle.surge.specs.Geometry.{sides, floats}
 use Rattle.surge.specs.Accepted.{Sound}
 use Rattle.surge.specs.State.{inRun, nodeOf}
-use Rattle.surge.specs.Step.{speedOf}
-use Rattle.surge.specs.Equations.{Sea, count, triangles, floating, riseOf, flowOf, pushOf}
+use Rattle.surge.specs.Step.{speedOf, row13Level, row13Flow}
+use Rattle.surge.specs.Equations.{Sea, count, triangles, floating, riseOf, flowOf, pushOf, rise, U′, V′}
 
 -- the lengths and the triangles of a sea that rows 1 to 10 accept
 pub record Ready (s : Sea) : Type 0 where
@@ -147,3 +149,37 @@ pub record MovingFits (w : Moving) : Type 0 where
 -- the work room with z' in its first run, and U' and V' of the first k nodes in the others
 abbrev pub flowRoom : Moving → ℕ → List Float
 flowRoom w k = room (w .rise ∷ upTo k (λ i. flowIn w i .u) (w .px) ∷ upTo k (λ i. flowIn w i .v) (w .py) ∷ [])
+
+-- ---- the passes together
+pub record Solving : Type 0 where
+  pub sea : Sea
+  pub kind : List ℕ
+  pub f : Forcing
+
+abbrev pub solving : Sea → List ℕ → Forcing → Solving
+solving s kind f = record { sea = s; kind = kind; f = f }
+
+pub record SolvingFits (v : Solving) : Type 0 where
+  pub ready : Ready (v .sea)
+  pub kind : length (v .kind) ≡ count (v .sea)
+
+abbrev pub zeros : ℕ → List Float
+zeros n = table n (λ _. plus0)
+
+-- the work room once every z' stands, and once U' and V' do
+abbrev pub risenRoom : Solving → List Float
+risenRoom v = room (table (count (v .sea)) (rise (v .sea) (v .kind) (v .f)) ∷ zeros (count (v .sea)) ∷ zeros (count (v .sea)) ∷ [])
+
+abbrev pub solvedRoom : Solving → List Float
+solvedRoom v =
+    room (
+    table (count (v .sea)) (rise (v .sea) (v .kind) (v .f))
+    ∷ table (count (v .sea)) (U′ (v .sea) (v .kind) (v .f))
+    ∷ table (count (v .sea)) (V′ (v .sea) (v .kind) (v .f))
+    ∷ [])
+
+-- row 13
+unfoldable pub solved : Solving → Answer
+solved v =
+    scan (row13Level (v .sea) (v .kind) (v .f)) (count (v .sea))
+    then scan (row13Flow (v .sea) (v .kind) (v .f)) (count (v .sea))

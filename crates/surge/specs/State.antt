@@ -1,12 +1,14 @@
 -- Document 01: the state and the clock, and rows 10, 11 and 12 of the refusal table.
 use Prim.Native.Nat.{ℕ, _+_, _*_}
-use mathlib.Core.Bool.{Bool, _&&_, not}
+use mathlib.Core.Bool.{Bool, false, _&&_, not}
 use mathlib.Core.List.{List}
 use lib.Dec.{eqb}
 use lib.ListN.{length, getD}
 use lib.Ieee.{Float, nan, le}
 use Rattle.lists.specs.declared.rows.Answer.{Answer}
-use Rattle.lists.specs.Scan.{row, _then_, within, decimal, minus}
+use Rattle.lists.specs.Runs.{isRuns}
+use Rattle.lists.specs.Scan.{row, _then_, scan, within, decimal, minus}
+use Rattle.equations.specs.declared.Parameters.{Parameters}
 use Rattle.equations.specs.declared.Node.{Node}
 use Rattle.equations.specs.declared.Wind.{Wind}
 use Rattle.equations.specs.Operations.{_⊕_}
@@ -14,6 +16,8 @@ use Rattle.equations.specs.Constants.{tenth}
 use Rattle.equations.specs.Outcomes.{inSize}
 use Rattle.surge.specs.declared.Clock.{Clock}
 use Rattle.surge.specs.declared.Forcing.{Forcing}
+use Rattle.surge.specs.Lent.{Mesh, N}
+use Rattle.surge.specs.Rows.{rows1to9}
 
 -- place i of run k
 abbrev pub inRun : ℕ → ℕ → List Float → ℕ → Float
@@ -35,6 +39,10 @@ inBounds c = inSize 30 (c .earlier) && inSize 30 (c .z) && le tenth (c .h ⊕ c 
 
 unfoldable pub row10 : List Float → List Float → ℕ → Answer
 row10 h state i = row (inBounds (nodeOf h state i)) 10 i
+
+-- rows 1 to 10, with which each call on a run but a load goes on. rooms: the call's slices besides the mesh and the state have their lengths
+unfoldable pub rows1to10 : Bool → Mesh → Parameters → List Float → Answer
+rows1to10 rooms m p state = rows1to9 (isRuns (length state) 4 (N m) && rooms) false m p then scan (row10 (m .h) state) (N m)
 
 -- | 11 | step number is 4,294,967,295 |
 unfoldable pub row11 : Clock → Answer

@@ -16,8 +16,7 @@ use Rattle.surge.specs.declared.Clock.{Clock}
 use Rattle.surge.specs.declared.Forcing.{Forcing}
 use Rattle.surge.specs.declared.Stepped.{Stepped}
 use Rattle.surge.specs.Lent.{Mesh, N}
-use Rattle.surge.specs.Rows.{rows1to9}
-use Rattle.surge.specs.State.{row10, row11, row12, windOf, advanced}
+use Rattle.surge.specs.State.{rows1to10, row11, row12, windOf, advanced}
 use Rattle.surge.specs.Equations.{Sea, sea, node, rise, flowAt, nextState}
 
 -- what a step is given: a mesh and parameters, the run's state and clock, and a forcing
@@ -55,13 +54,9 @@ unfoldable pub advance : Given → Held
 advance g = record { state = nextState (seaOf g) (g .mesh .kind) (g .forcing); clock = advanced (g .clock) (g .forcing) }
 
 -- ---- the answer
--- "A step goes on with 10, 11, 12": what is tested before anything is worked out. rooms: the call's slices have their lengths
+-- "A step goes on with 10, 11, 12": what is tested before anything is worked out
 unfoldable pub before13 : Bool → Given → Answer
-before13 rooms g =
-    rows1to9 rooms false (g .mesh) (g .p)
-    then scan (row10 (g .mesh .h) (g .state)) (N (g .mesh))
-    then row11 (g .clock)
-    then row12 (g .clock) (g .forcing)
+before13 rooms g = rows1to10 rooms (g .mesh) (g .p) (g .state) then row11 (g .clock) then row12 (g .clock) (g .forcing)
 
 -- "then 13"
 unfoldable pub row13 : Given → Answer
@@ -76,8 +71,11 @@ pub record Rooms : Type 0 where
   pub work : List Float
   pub sums : List ℕ
 
-abbrev pub roomy : List Float → Rooms → ℕ → Bool
-roomy state r n = isRuns (length state) 4 n && isRuns (length (r .next)) 4 n && isRuns (length (r .work)) 3 n && isRuns (length (r .sums)) 1 n
+abbrev pub lentRooms : List Float → List Float → List ℕ → Rooms
+lentRooms next work sums = record { next = next; work = work; sums = sums }
+
+abbrev pub roomy : Rooms → ℕ → Bool
+roomy r n = isRuns (length (r .next)) 4 n && isRuns (length (r .work)) 3 n && isRuns (length (r .sums)) 1 n
 
 -- "all zero after an accepted step or a 13"
 abbrev pub cleared : List Float → ℕ → Rooms
@@ -88,7 +86,7 @@ pub record StepOut : Type 0 where
   pub rooms : Rooms
 
 abbrev pub stepOut : Stepped → List Float → List Float → List ℕ → StepOut
-stepOut s next work sums = record { stepped = s; rooms = record { next = next; work = work; sums = sums } }
+stepOut s next work sums = record { stepped = s; rooms = lentRooms next work sums }
 
 -- "A refusal leaves state, next state, text and clock as found. Work room is untouched by every refusal but 13"
 abbrev pub refusedBefore : Given → Rooms → Answer → StepOut
@@ -100,8 +98,10 @@ refusedBy13 g r a = record { stepped = record { answer = a; clock = g .clock }; 
 abbrev pub wentOn : Given → Answer → StepOut
 wentOn g a = record { stepped = record { answer = a; clock = advance g .clock }; rooms = cleared (advance g .state) (N (g .mesh)) }
 
-unfoldable pub stepOf : Given → Rooms → StepOut
-stepOf g r =
-    let first = before13 (roomy (g .state) r (N (g .mesh))) g in
-    let last = row13 g in
+-- by the answer of rows 1 to 12, and then by that of row 13
+unfoldable pub stepsTo : Given → Rooms → Answer → Answer → StepOut
+stepsTo g r first last =
     cond (eqb (first .number) 0) (cond (eqb (last .number) 0) (wentOn g last) (refusedBy13 g r last)) (refusedBefore g r first)
+
+unfoldable pub stepOf : Given → Rooms → StepOut
+stepOf g r = stepsTo g r (before13 (roomy r (N (g .mesh))) g) (row13 g)

@@ -1,15 +1,16 @@
 // The storm-surge run of document 01: the calls that are made on it, and what goes into them and comes back.
 pub mod mesh;
-pub mod step;
+pub mod stepping;
 
 use equations::Parameters;
+use equations::Wind;
 use lists::rows::Answer;
 use lists::slices;
 ghost use mathlib.Core.Path.{_≡_};
 ghost use Rattle.surge.specs.Lent.{mesh, coldClock};
 ghost use Prim.Native.Nat.{_<_};
 ghost use Rattle.surge.specs.State.{advanced};
-ghost use Rattle.surge.specs.Step.{given, stepOut, stepOf, Rooms};
+ghost use Rattle.surge.specs.Step.{given, lentRooms, stepOut, stepOf};
 ghost use Rattle.surge.specs.Open.{openOut, openOf};
 
 // The step number and the present wind.
@@ -85,4 +86,49 @@ pub fn open(
 pub struct Stepped {
     pub answer: Answer,
     pub clock: Clock,
+}
+
+// A step: rows 1 to 13, then the next state in `next`. A refusal leaves `next` and the clock as found, and the work room too unless it is 13.
+pub fn step(
+    next: &mut [f64],
+    work: &mut [f64],
+    sums: &mut [u64],
+    state: &[f64],
+    x: &[i32],
+    y: &[i32],
+    tri: &[u16],
+    h: &[f64],
+    kind: &[u8],
+    p: Parameters,
+    clock: Clock,
+    f: Forcing,
+) -> Stepped
+    ensures { λ r. ⌜ stepOut r (now (next .exit)) (now (work .exit)) (now (sums .exit)) ≡ stepOf (given (mesh (now (x .entry)) (now (y .entry)) (now (tri .entry)) (now (h .entry)) (now (kind .entry))) p (now (state .entry)) clock f) (lentRooms (now (next .entry)) (now (work .entry)) (now (sums .entry))) ⌝ }
+{
+    let n = x.len();
+    let rooms = slices::is_runs(next.len(), 4, n)
+        & slices::is_runs(work.len(), 3, n)
+        & slices::is_runs(sums.len(), 1, n);
+    let first = stepping::before_13(rooms, x, y, tri, h, kind, p, state, clock, f);
+    if first.number != 0 {
+        return Stepped {
+            answer: first,
+            clock,
+        };
+    }
+    let held = Wind {
+        x: clock.wx,
+        y: clock.wy,
+    };
+    let last = stepping::advance(next, work, sums, x, y, tri, h, kind, p, state, held, f);
+    if last.number != 0 {
+        return Stepped {
+            answer: last,
+            clock,
+        };
+    }
+    Stepped {
+        answer: last,
+        clock: clock.advanced(f),
+    }
 }

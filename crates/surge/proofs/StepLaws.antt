@@ -1,0 +1,138 @@
+-- A step's outcomes: refused before anything is worked out, refused by 13, and gone on.
+use Prim.Native.Nat.{ℕ, _*_}
+use mathlib.Core.Path.{_≡_, sym, ap, _∙_}
+use mathlib.Core.Bool.{true, false, cond, _&&_, not}
+use mathlib.Core.List.{List}
+use native.Mathlib.Nat.{one-mul}
+use borrow.Author.Tests.{eqb-true, eqb-false, eq-eqb, ne-eqb, not-true}
+use lib.Dec.{eqb}
+use lib.ListN.{length}
+use lib.Ieee.{Float}
+use Rattle.lists.specs.declared.rows.Answer.{Answer}
+use Rattle.lists.specs.Table.{table}
+use Rattle.lists.specs.Runs.{isRuns}
+use Rattle.lists.specs.Scan.{_then_, scan}
+use Rattle.lists.proofs.ScanLaws.{row-passed, then-first, then-rest, same-number, other-number, both-left, both-right}
+use Rattle.surge.specs.declared.Clock.{Clock}
+use Rattle.surge.specs.Lent.{N}
+use Rattle.surge.specs.Rows.{rows1to9}
+use Rattle.surge.specs.Accepted.{Accepted}
+use Rattle.surge.specs.State.{rows1to10, row11, advanced}
+use Rattle.surge.specs.Equations.{nextState}
+use Rattle.surge.specs.Step.{Given, seaOf, advance, before13, row13, row13Level, row13Flow, Rooms, roomy, cleared, stepOut, refusedBefore, refusedBy13, wentOn, stepsTo, stepOf}
+use Rattle.surge.specs.Passes.{Solving, solving, SolvingFits, zeros, solved}
+use Rattle.surge.proofs.AcceptedLaws.{accepted, accepted-rooms}
+
+abbrev pub solvingOf : Given → Solving
+solvingOf g = solving (seaOf g) (g .mesh .kind) (g .forcing)
+
+module _ (g : Given) (r : Rooms) where
+  -- ---- by the two answers
+  module _ (first last : Answer) where
+    to-refused : (first .number ≡ 0 → ⊥) → stepsTo g r first last ≡ refusedBefore g r first
+    unfolding stepsTo
+    to-refused h = rw (ne-eqb _ _ h)
+
+    to-13 : first .number ≡ 0 → (last .number ≡ 0 → ⊥) → stepsTo g r first last ≡ refusedBy13 g r last
+    unfolding stepsTo
+    to-13 h k = rw (eq-eqb _ _ h, ne-eqb _ _ k)
+
+    to-next : first .number ≡ 0 → last .number ≡ 0 → stepsTo g r first last ≡ wentOn g last
+    unfolding stepsTo
+    to-next h k = rw (eq-eqb _ _ h, eq-eqb _ _ k)
+
+  -- ---- refused before anything is worked out
+  pub stopped : (a : Answer) → a ≡ before13 (roomy r (N (g .mesh))) g → (a .number ≡ 0 → ⊥) → refusedBefore g r a ≡ stepOf g r
+  unfolding stepOf
+  stopped a e h = ap (refusedBefore g r) e ∙ sym (to-refused _ _ (other-number e h))
+
+  -- ---- what is known past rows 1 to 12
+  module _ (ok : before13 (roomy r (N (g .mesh))) g .number ≡ 0) where
+    to-10 : rows1to10 (roomy r (N (g .mesh))) (g .mesh) (g .p) (g .state) .number ≡ 0
+    unfolding before13
+    to-10 = then-first _ _ ok
+
+    to-9 : rows1to9 (isRuns (length (g .state)) 4 (N (g .mesh)) && roomy r (N (g .mesh))) false (g .mesh) (g .p) .number ≡ 0
+    unfolding rows1to10
+    to-9 = then-first _ _ to-10
+
+    pub mesh-accepted : Accepted (g .mesh) (g .p)
+    mesh-accepted = accepted _ _ _ _ to-9
+
+    all-rooms : (isRuns (length (g .state)) 4 (N (g .mesh)) && roomy r (N (g .mesh))) ≡ true
+    all-rooms = accepted-rooms _ _ _ _ to-9
+
+    -- the depths are as many as the nodes
+    depths : length (g .mesh .h) ≡ N (g .mesh)
+    depths = mesh-accepted .sized .h
+
+    state-long : length (g .state) ≡ 4 * N (g .mesh)
+    state-long = eqb-true _ _ (both-left _ (roomy r (N (g .mesh))) all-rooms)
+
+    others : roomy r (N (g .mesh)) ≡ true
+    others = both-right (isRuns (length (g .state)) 4 (N (g .mesh))) _ all-rooms
+
+    first-two : (isRuns (length (r .next)) 4 (N (g .mesh)) && isRuns (length (r .work)) 3 (N (g .mesh))) ≡ true
+    first-two = both-left _ (isRuns (length (r .sums)) 1 (N (g .mesh))) others
+
+    pub next-long : length (r .next) ≡ 4 * length (g .mesh .h)
+    next-long = eqb-true _ _ (both-left _ (isRuns (length (r .work)) 3 (N (g .mesh))) first-two) ∙ ap (λ (n : ℕ). 4 * n) (sym depths)
+
+    pub work-long : length (r .work) ≡ 3 * length (g .mesh .h)
+    work-long = eqb-true _ _ (both-right (isRuns (length (r .next)) 4 (N (g .mesh))) _ first-two) ∙ ap (λ (n : ℕ). 3 * n) (sym depths)
+
+    pub sums-long : length (r .sums) ≡ length (g .mesh .h)
+    sums-long =
+        eqb-true _ _ (both-right (isRuns (length (r .next)) 4 (N (g .mesh)) && isRuns (length (r .work)) 3 (N (g .mesh))) _ others)
+        ∙ one-mul (N (g .mesh))
+        ∙ sym depths
+
+    pub solving-fits : SolvingFits (solvingOf g)
+    solving-fits =
+        let a = mesh-accepted in
+        record {
+          ready = record {
+            x = sym depths;
+            y = a .sized .y;
+            tri = a .sized .tri;
+            state = state-long ∙ ap (λ (n : ℕ). 4 * n) (sym depths);
+            few = a .sized .most-triangles;
+            sound = a .triangles;
+          };
+          kind = a .sized .kind ∙ sym depths;
+        }
+
+    -- row 11
+    counts : not (eqb (g .clock .step) 4294967295) ≡ true
+    unfolding before13 row11
+    counts = row-passed _ 10 0 (then-first _ _ (then-rest _ _ ok))
+
+    pub not-last : g .clock .step ≡ 4294967295 → ⊥
+    not-last = eqb-false (g .clock .step) 4294967295 (not-true (eqb (g .clock .step) 4294967295) counts)
+
+    its-13 : solved (solvingOf g) ≡ row13 g
+    unfolding solved row13
+    its-13 = λ i. scan (row13Level (seaOf g) (g .mesh .kind) (g .forcing)) (depths i) then scan (row13Flow (seaOf g) (g .mesh .kind) (g .forcing)) (depths i)
+
+    -- ---- refused by 13, and gone on: what the equations leave is zero but for the next state
+    module _ (a : Answer) (e : a ≡ solved (solvingOf g)) (next work : List Float) (sums : List ℕ)
+        (en : next ≡ cond (eqb (a .number) 0) (nextState (seaOf g) (g .mesh .kind) (g .forcing)) (r .next))
+        (ew : work ≡ zeros (3 * length (g .mesh .h))) (es : sums ≡ table (length (g .mesh .h)) (λ _. 0)) where
+      its : a ≡ row13 g
+      its = e ∙ its-13
+
+      left : (k : Clock) (n : List Float) → next ≡ n → stepOut (record { answer = a; clock = k }) next work sums ≡ record { stepped = record { answer = row13 g; clock = k }; rooms = cleared n (N (g .mesh)) }
+      left k n q = λ i. stepOut (record { answer = its i; clock = k }) (q i)
+          ((ew ∙ ap (λ (m : ℕ). zeros (3 * m)) depths) i)
+          ((es ∙ ap (λ (m : ℕ). table m (λ _. 0)) depths) i)
+
+      pub by-13 : (a .number ≡ 0 → ⊥) → stepOut (record { answer = a; clock = g .clock }) next work sums ≡ stepOf g r
+      unfolding stepOf
+      by-13 h = left (g .clock) (r .next) (en ∙ rw (ne-eqb _ _ h)) ∙ sym (to-13 _ _ ok (other-number its h))
+
+      pub went-on : a .number ≡ 0 → (k : Clock) → k ≡ advanced (g .clock) (g .forcing) → stepOut (record { answer = a; clock = k }) next work sums ≡ stepOf g r
+      unfolding stepOf advance
+      went-on h k ek =
+          ap (λ (c : Clock). stepOut (record { answer = a; clock = c }) next work sums) ek
+          ∙ left (advanced (g .clock) (g .forcing)) (nextState (seaOf g) (g .mesh .kind) (g .forcing)) (en ∙ rw (eq-eqb _ _ h))
+          ∙ sym (to-next _ _ ok (same-number its h))

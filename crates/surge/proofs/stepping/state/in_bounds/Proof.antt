@@ -1,0 +1,38 @@
+use lib.Ieee.{ofBits, neg, round}
+use Rattle.lists.specs.Scan.{decimal, minus}
+use Rattle.surge.specs.State.{inBounds}
+use borrow.Author.Needs.{needs}
+use Rattle.surge.proofs.stepping.state.in_bounds.Statement.{statement}
+use Rattle.surge.proofs.stepping.state.in_bounds.Tie as tie
+
+in-range-requires : tie.Need-in-range-requires
+in-range-requires c κs = search needs
+
+in-range-requires-2 : tie.Need-in-range-requires-2
+in-range-requires-2 c κs = search needs
+
+in-range-requires-3 : tie.Need-in-range-requires-3
+in-range-requires-3 c κs = search needs
+
+in-range-requires-4 : tie.Need-in-range-requires-4
+in-range-requires-4 c κs = search needs
+
+returns : tie.Need-returns
+unfolding inBounds decimal minus round ofBits neg
+returns c =
+    rw (
+      c .in-range4 .ensures,
+      c .before .in-range3 .ensures,
+      c .before .before .before .in-range2 .ensures,
+      c .before .before .before .before .in-range .ensures,
+    )
+
+pub in-bounds-spec : {M : Type 1} → statement M
+in-bounds-spec =
+    tie.close
+    (tie.spec
+    in-range-requires
+    in-range-requires-2
+    in-range-requires-3
+    in-range-requires-4
+    returns)
