@@ -1,8 +1,9 @@
--- Each public function's own contract has at most one outcome, and `open` asks nothing of its caller.
+-- Each public function's own contract has at most one outcome, and the calls on a run ask nothing of their caller.
 use mathlib.Core.Path.{_≡_, refl, sym, ap, _∙_}
 use contract.Lifetimes.{Lfts}
 use borrow.Fn.Kinds.{Dens}
 use Rattle.surge.specs.Open.{OpenOut, openOut}
+use Rattle.surge.specs.Step.{StepOut, stepOut}
 use Rattle.statements.specs.Determined.{Determined}
 use Rattle.lists.proofs.rows.accept.Kinds as accept-kinds
 use Rattle.lists.proofs.rows.accept.Reads as accept-reads
@@ -24,6 +25,36 @@ use Rattle.surge.proofs.Clock.cold.Kinds as cold-kinds
 use Rattle.surge.proofs.Clock.cold.Reads as cold-reads
 use Rattle.surge.proofs.open.Kinds as open-kinds
 use Rattle.surge.proofs.open.Reads as open-reads
+use Rattle.equations.proofs.elevation.slope.Kinds as slope-kinds
+use Rattle.equations.proofs.elevation.slope.Reads as slope-reads
+use Rattle.equations.proofs.elevation.means.Kinds as means-kinds
+use Rattle.equations.proofs.elevation.means.Reads as means-reads
+use Rattle.equations.proofs.elevation.jx.Kinds as jx-kinds
+use Rattle.equations.proofs.elevation.jx.Reads as jx-reads
+use Rattle.equations.proofs.elevation.jy.Kinds as jy-kinds
+use Rattle.equations.proofs.elevation.jy.Reads as jy-reads
+use Rattle.equations.proofs.elevation.corner.Kinds as corner-kinds
+use Rattle.equations.proofs.elevation.corner.Reads as corner-reads
+use Rattle.equations.proofs.elevation.shares.Kinds as shares-kinds
+use Rattle.equations.proofs.elevation.shares.Reads as shares-reads
+use Rattle.equations.proofs.elevation.lumped.Kinds as lumped-kinds
+use Rattle.equations.proofs.elevation.lumped.Reads as lumped-reads
+use Rattle.equations.proofs.elevation.risen.Kinds as risen-kinds
+use Rattle.equations.proofs.elevation.risen.Reads as risen-reads
+use Rattle.equations.proofs.velocity.flow.Kinds as flow-kinds
+use Rattle.equations.proofs.velocity.flow.Reads as flow-reads
+use Rattle.equations.proofs.outcomes.level.Kinds as level-kinds
+use Rattle.equations.proofs.outcomes.level.Reads as level-reads
+use Rattle.equations.proofs.outcomes.east.Kinds as east-kinds
+use Rattle.equations.proofs.outcomes.east.Reads as east-reads
+use Rattle.equations.proofs.outcomes.north.Kinds as north-kinds
+use Rattle.equations.proofs.outcomes.north.Reads as north-reads
+use Rattle.equations.proofs.outcomes.answer.Kinds as answer-kinds
+use Rattle.equations.proofs.outcomes.answer.Reads as answer-reads
+use Rattle.lists.proofs.slices.clear_whole.Kinds as clear-whole-kinds
+use Rattle.lists.proofs.slices.clear_whole.Reads as clear-whole-reads
+use Rattle.surge.proofs.step.Kinds as step-kinds
+use Rattle.surge.proofs.step.Reads as step-reads
 
 -- the one law: two values that equal a third are equal
 same : {A : Type 0} {x y z : A} → x ≡ z → y ≡ z → x ≡ y
@@ -51,9 +82,51 @@ is-runs-determined κs a x y v w p q = (same p q, refl)
 pub cold-determined : Determined cold-kinds.ps cold-kinds.r cold-reads.Post
 cold-determined κs a x y v w p q = (same p q, refl)
 
+pub slope-determined : Determined slope-kinds.ps slope-kinds.r slope-reads.Post
+slope-determined κs a x y v w p q = (same p q, refl)
+
+pub means-determined : Determined means-kinds.ps means-kinds.r means-reads.Post
+means-determined κs a x y v w p q = (same p q, refl)
+
+pub jx-determined : Determined jx-kinds.ps jx-kinds.r jx-reads.Post
+jx-determined κs a x y v w p q = (same p q, refl)
+
+pub jy-determined : Determined jy-kinds.ps jy-kinds.r jy-reads.Post
+jy-determined κs a x y v w p q = (same p q, refl)
+
+pub corner-determined : Determined corner-kinds.ps corner-kinds.r corner-reads.Post
+corner-determined κs a x y v w p q = (same p q, refl)
+
+pub shares-determined : Determined shares-kinds.ps shares-kinds.r shares-reads.Post
+shares-determined κs a x y v w p q = (same p q, refl)
+
+pub lumped-determined : Determined lumped-kinds.ps lumped-kinds.r lumped-reads.Post
+lumped-determined κs a x y v w p q = (same p q, refl)
+
+pub risen-determined : Determined risen-kinds.ps risen-kinds.r risen-reads.Post
+risen-determined κs a x y v w p q = (same p q, refl)
+
+pub flow-determined : Determined flow-kinds.ps flow-kinds.r flow-reads.Post
+flow-determined κs a x y v w p q = (same p q, refl)
+
+pub level-determined : Determined level-kinds.ps level-kinds.r level-reads.Post
+level-determined κs a x y v w p q = (same p q, refl)
+
+pub east-determined : Determined east-kinds.ps east-kinds.r east-reads.Post
+east-determined κs a x y v w p q = (same p q, refl)
+
+pub north-determined : Determined north-kinds.ps north-kinds.r north-reads.Post
+north-determined κs a x y v w p q = (same p q, refl)
+
+pub answer-determined : Determined answer-kinds.ps answer-kinds.r answer-reads.Post
+answer-determined κs a x y v w p q = (same p q, refl)
+
 -- ---- functions that write a slice
 pub clear-determined : Determined clear-kinds.ps clear-kinds.r clear-reads.Post
 clear-determined κs a x y v w p q = (refl, λ i. (same p q i, tt))
+
+pub clear-whole-determined : Determined clear-whole-kinds.ps clear-whole-kinds.r clear-whole-reads.Post
+clear-whole-determined κs a x y v w p q = (refl, λ i. (same p q i, tt))
 
 pub copy-determined : Determined copy-kinds.ps copy-kinds.r copy-reads.Post
 copy-determined κs a x y v w p q = (refl, λ i. (same p q i, (tt, tt)))
@@ -66,3 +139,13 @@ open-determined κs a x y v w p q =
 
 pub open-asks-nothing : (κs : Lfts 6) (a : Dens κs open-kinds.ps) → open-reads.Asked κs a
 open-asks-nothing κs a = tt
+
+pub step-determined : Determined step-kinds.ps step-kinds.r step-reads.Post
+step-determined κs a x y v w p q =
+    let e : stepOut x (v .0) (v .1 .0) (v .1 .1 .0) ≡ stepOut y (w .0) (w .1 .0) (w .1 .1 .0) = same p q in (
+      ap (λ (o : StepOut). o .stepped) e,
+      λ i. (e i .rooms .next, (e i .rooms .work, (e i .rooms .sums, (tt, (tt, (tt, (tt, (tt, (tt, (tt, (tt, (tt, tt)))))))))))),
+    )
+
+pub step-asks-nothing : (κs : Lfts 9) (a : Dens κs step-kinds.ps) → step-reads.Asked κs a
+step-asks-nothing κs a = tt

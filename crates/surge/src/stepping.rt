@@ -14,19 +14,17 @@ use lists::rows::Answer;
 use lists::slices;
 ghost use mathlib.Core.Path.{_≡_};
 ghost use mathlib.Core.Bool.{cond};
-ghost use mathlib.Core.List.{[], _∷_, _++_};
-ghost use Prim.Native.Nat.{ℕ, _*_, _<_};
+ghost use mathlib.Core.List.{_++_};
+ghost use Prim.Native.Nat.{_*_};
 ghost use lib.Dec.{eqb};
 ghost use lib.ListN.{length};
 ghost use Rattle.lists.specs.Table.{table};
-ghost use Rattle.lists.specs.Runs.{run, room};
-ghost use Rattle.lists.specs.Scan.{scan, plus0};
-ghost use Rattle.equations.specs.declared.Wind.{Wind};
+ghost use Rattle.lists.specs.Runs.{run};
 ghost use Rattle.surge.specs.Lent.{mesh};
-ghost use Rattle.surge.specs.State.{rows1to10, windOf};
-ghost use Rattle.surge.specs.Equations.{Sea, sea, count, Sums, rise, nextState};
-ghost use Rattle.surge.specs.Step.{Given, given, before13, row13, row13Level, row13Flow};
-ghost use Rattle.surge.specs.Passes.{Ready, Solving, solving, SolvingFits, zeros, risenRoom, solvedRoom, solved};
+ghost use Rattle.surge.specs.State.{rows1to10};
+ghost use Rattle.surge.specs.Equations.{sea, count, nextState};
+ghost use Rattle.surge.specs.Step.{given, before13};
+ghost use Rattle.surge.specs.Passes.{Solving, solving, SolvingFits, zeros, solvedRoom, solved};
 
 // Rows 1 to 10. `rooms`: the call's slices besides the mesh and the state have their lengths.
 pub(crate) fn rows_to_10(
@@ -71,86 +69,6 @@ pub(crate) fn before_13(
     )
 }
 
-// z' of every node, and S in the sums, from zero.
-fn raise(
-    r: &mut [f64],
-    sums: &mut [u64],
-    x: &[i32],
-    y: &[i32],
-    tri: &[u16],
-    h: &[f64],
-    kind: &[u8],
-    p: Parameters,
-    state: &[f64],
-    w: Wind,
-    f: Forcing,
-) -> Answer
-    ghost { Solving }
-    requires { λ v. ⌜ solving (sea p w (now x) (now y) (now tri) (now h) (now state)) (now kind) f ≡ v ⌝ }
-    requires { λ v. ⌜ SolvingFits v ⌝ }
-    requires { λ v. ⌜ (now r ≡ zeros (count (v .sea))) × (now sums ≡ table (count (v .sea)) (λ _. 0)) ⌝ }
-    ensures { λ v a. ⌜ a ≡ scan (row13Level (v .sea) (v .kind) (v .f)) (count (v .sea)) ⌝ }
-    ensures { λ v a. ⌜ now (sums .exit) ≡ table (count (v .sea)) (Sums (v .sea)) ⌝ }
-    ensures { λ v a. ⌜ (a .number ≡ 0 → now (r .exit) ≡ table (count (v .sea)) (rise (v .sea) (v .kind) (v .f))) ⌝ }
-{
-    elevation::assemble(r, sums, p, w, x, y, tri, h, state);
-    elevation::rises(r, p, f.elevation, kind, h, state, sums)
-}
-
-// z' of every node in the first run of the work room, and S in the sums.
-fn levels(
-    work: &mut [f64],
-    sums: &mut [u64],
-    x: &[i32],
-    y: &[i32],
-    tri: &[u16],
-    h: &[f64],
-    kind: &[u8],
-    p: Parameters,
-    state: &[f64],
-    w: Wind,
-    f: Forcing,
-) -> Answer
-    ghost { Solving }
-    requires { λ v. ⌜ solving (sea p w (now x) (now y) (now tri) (now h) (now state)) (now kind) f ≡ v ⌝ }
-    requires { λ v. ⌜ SolvingFits v ⌝ }
-    requires { λ v. ⌜ (length (now work) ≡ 3 * count (v .sea)) × (length (now sums) ≡ count (v .sea)) ⌝ }
-    ensures { λ v a. ⌜ a ≡ scan (row13Level (v .sea) (v .kind) (v .f)) (count (v .sea)) ⌝ }
-    ensures { λ v a. ⌜ now (sums .exit) ≡ table (count (v .sea)) (Sums (v .sea)) ⌝ }
-    ensures { λ v a. ⌜ (a .number ≡ 0 → now (work .exit) ≡ risenRoom v) ⌝ }
-{
-    let n = h.len();
-    slices::clear(work);
-    slices::clear_whole(sums);
-    raise(&mut work[0..n], sums, x, y, tri, h, kind, p, state, w, f)
-}
-
-// U' and V' of every node in the second and the third run of the work room, from z' in the first.
-fn velocities(
-    work: &mut [f64],
-    x: &[i32],
-    y: &[i32],
-    tri: &[u16],
-    h: &[f64],
-    kind: &[u8],
-    p: Parameters,
-    state: &[f64],
-    w: Wind,
-    f: Forcing,
-    sums: &[u64],
-) -> Answer
-    ghost { Solving }
-    requires { λ v. ⌜ solving (sea p w (now x) (now y) (now tri) (now h) (now state)) (now kind) f ≡ v ⌝ }
-    requires { λ v. ⌜ SolvingFits v ⌝ }
-    requires { λ v. ⌜ (now work ≡ risenRoom v) × (now sums ≡ table (count (v .sea)) (Sums (v .sea))) ⌝ }
-    ensures { λ v a. ⌜ a ≡ scan (row13Flow (v .sea) (v .kind) (v .f)) (count (v .sea)) ⌝ }
-    ensures { λ v a. ⌜ (a .number ≡ 0 → now (work .exit) ≡ solvedRoom v) ⌝ }
-{
-    velocity::slopes(work, x, y, tri, state);
-    let new = Wind { x: f.wx, y: f.wy };
-    velocity::flows(work, p, w, new, kind, h, state, sums)
-}
-
 // Row 13, with z', U' and V' of every node in the work room where it accepts.
 fn solve(
     work: &mut [f64],
@@ -172,11 +90,11 @@ fn solve(
     ensures { λ v a. ⌜ a ≡ solved v ⌝ }
     ensures { λ v a. ⌜ (a .number ≡ 0 → now (work .exit) ≡ solvedRoom v) ⌝ }
 {
-    let level = levels(work, sums, x, y, tri, h, kind, p, state, w, f);
+    let level = elevation::levels(work, sums, x, y, tri, h, kind, p, state, w, f);
     if level.number != 0 {
         return level;
     }
-    velocities(work, x, y, tri, h, kind, p, state, w, f, sums)
+    velocity::velocities(work, x, y, tri, h, kind, p, state, w, f, sums)
 }
 
 // The next state: z, and then z', U' and V' as the work room has them.

@@ -1,13 +1,11 @@
 // Rows 3 to 6: the triangles.
 use super::geometry;
-use super::geometry::Corners;
 use lists::rows;
 use lists::rows::Answer;
 ghost use mathlib.Core.Path.{_≡_};
 ghost use Prim.Native.Nat.{_+_, _*_, _/_, _<_};
-ghost use lib.ListN.{length, getD};
+ghost use lib.ListN.{length};
 ghost use Rattle.lists.specs.Scan.{scan};
-ghost use Rattle.surge.specs.Geometry.{nodesOf};
 ghost use Rattle.surge.specs.Rows.{rows3to5, legSeen, row6, row6If};
 
 // Rows 3, 4 and 5 of triangle t.

@@ -1,4 +1,5 @@
 // "Elevation": R and S of every node in one pass over the triangles, then z'.
+use super::super::Forcing;
 use super::super::mesh::geometry;
 use super::super::mesh::geometry::Corners;
 use super::super::mesh::geometry::WholeSides;
@@ -13,21 +14,23 @@ use equations::elevation;
 use equations::outcomes;
 use lists::rows;
 use lists::rows::Answer;
+use lists::slices;
 ghost use mathlib.Core.Path.{_≡_};
 ghost use mathlib.Core.Bool.{true};
-ghost use Prim.Native.Nat.{ℕ, _+_, _*_, _^_, _<_, _≤_};
+ghost use Prim.Native.Nat.{_*_, _^_, _<_, _≤_};
 ghost use lib.ListN.{length, getD};
 ghost use lib.IntN.{natAbs, pos};
 ghost use lib.Ieee.{nan};
 ghost use Rattle.lists.specs.Table.{table};
 ghost use Rattle.lists.specs.Scan.{scan, plus0};
-ghost use Rattle.lists.specs.Gather.{Below, alike, whole, addedAt, spread};
+ghost use Rattle.lists.specs.Gather.{Below};
 ghost use Rattle.equations.specs.Elevation.{shares};
 ghost use Rattle.equations.specs.Outcomes.{level};
 ghost use Rattle.surge.specs.Geometry.{nodesOf, D, allNear, floats};
 ghost use Rattle.surge.specs.State.{nodeOf};
-ghost use Rattle.surge.specs.Equations.{Sea, sea, count, threeOf, floating, R, Sums, riseOf};
-ghost use Rattle.surge.specs.Passes.{Ready, Rising, rising, RisingFits, riseIn, levelIn};
+ghost use Rattle.surge.specs.Equations.{Sea, sea, count, R, Sums, rise, riseOf};
+ghost use Rattle.surge.specs.Passes.{Ready, Rising, rising, RisingFits, riseIn, levelIn, Solving, solving, SolvingFits, zeros, risenRoom};
+ghost use Rattle.surge.specs.Step.{row13Level};
 
 // D of a triangle that rows 4 and 5 accept, as a count.
 fn area_of(s: WholeSides) -> u64
@@ -50,7 +53,7 @@ fn shares_of(p: Parameters, w: Wind, c: Corners, s: WholeSides, h: &[f64], state
 }
 
 // R and S of every node, from zero.
-pub(crate) fn assemble(
+fn assemble(
     r: &mut [f64],
     sums: &mut [u64],
     p: Parameters,
@@ -108,7 +111,7 @@ fn outcome_at(
 }
 
 // R of every node becomes its z', up to the first node that row 13 refuses.
-pub(crate) fn rises(
+fn rises(
     r: &mut [f64],
     p: Parameters,
     elevation: f64,
@@ -132,4 +135,58 @@ pub(crate) fn rises(
         }
     }
     rows::accept()
+}
+
+// z' of every node, and S in the sums, from zero.
+fn raise(
+    r: &mut [f64],
+    sums: &mut [u64],
+    x: &[i32],
+    y: &[i32],
+    tri: &[u16],
+    h: &[f64],
+    kind: &[u8],
+    p: Parameters,
+    state: &[f64],
+    w: Wind,
+    f: Forcing,
+) -> Answer
+    ghost { Solving }
+    requires { λ v. ⌜ solving (sea p w (now x) (now y) (now tri) (now h) (now state)) (now kind) f ≡ v ⌝ }
+    requires { λ v. ⌜ SolvingFits v ⌝ }
+    requires { λ v. ⌜ (now r ≡ zeros (count (v .sea))) × (now sums ≡ table (count (v .sea)) (λ _. 0)) ⌝ }
+    ensures { λ v a. ⌜ a ≡ scan (row13Level (v .sea) (v .kind) (v .f)) (count (v .sea)) ⌝ }
+    ensures { λ v a. ⌜ now (sums .exit) ≡ table (count (v .sea)) (Sums (v .sea)) ⌝ }
+    ensures { λ v a. ⌜ (a .number ≡ 0 → now (r .exit) ≡ table (count (v .sea)) (rise (v .sea) (v .kind) (v .f))) ⌝ }
+{
+    assemble(r, sums, p, w, x, y, tri, h, state);
+    rises(r, p, f.elevation, kind, h, state, sums)
+}
+
+// z' of every node in the first run of the work room, and S in the sums.
+pub(crate) fn levels(
+    work: &mut [f64],
+    sums: &mut [u64],
+    x: &[i32],
+    y: &[i32],
+    tri: &[u16],
+    h: &[f64],
+    kind: &[u8],
+    p: Parameters,
+    state: &[f64],
+    w: Wind,
+    f: Forcing,
+) -> Answer
+    ghost { Solving }
+    requires { λ v. ⌜ solving (sea p w (now x) (now y) (now tri) (now h) (now state)) (now kind) f ≡ v ⌝ }
+    requires { λ v. ⌜ SolvingFits v ⌝ }
+    requires { λ v. ⌜ (length (now work) ≡ 3 * count (v .sea)) × (length (now sums) ≡ count (v .sea)) ⌝ }
+    ensures { λ v a. ⌜ a ≡ scan (row13Level (v .sea) (v .kind) (v .f)) (count (v .sea)) ⌝ }
+    ensures { λ v a. ⌜ now (sums .exit) ≡ table (count (v .sea)) (Sums (v .sea)) ⌝ }
+    ensures { λ v a. ⌜ (a .number ≡ 0 → now (work .exit) ≡ risenRoom v) ⌝ }
+{
+    let n = h.len();
+    slices::clear(work);
+    slices::clear_whole(sums);
+    raise(&mut work[0..n], sums, x, y, tri, h, kind, p, state, w, f)
 }

@@ -1,10 +1,10 @@
 // "Velocity": Px and Py of every node in one pass over the triangles, then U' and V'.
+use super::super::Forcing;
 use super::super::mesh::geometry;
 use super::super::mesh::geometry::Corners;
 use super::state;
 use super::sums;
 use equations::Flow;
-use equations::Node;
 use equations::Parameters;
 use equations::Push;
 use equations::Shares;
@@ -17,7 +17,7 @@ use lists::rows;
 use lists::rows::Answer;
 ghost use mathlib.Core.Path.{_≡_};
 ghost use mathlib.Core.List.{[], _∷_};
-ghost use Prim.Native.Nat.{ℕ, _+_, _*_, _/_, _^_, _<_, _≤_};
+ghost use Prim.Native.Nat.{_*_, _/_, _^_, _<_, _≤_};
 ghost use lib.ListN.{length, getD, set};
 ghost use lib.Ieee.{nan};
 ghost use Rattle.lists.specs.Table.{table};
@@ -26,9 +26,9 @@ ghost use Rattle.lists.specs.Scan.{scan};
 ghost use Rattle.lists.specs.Gather.{Below, alike, spread};
 ghost use Rattle.surge.specs.Geometry.{nodesOf};
 ghost use Rattle.surge.specs.State.{nodeOf};
-ghost use Rattle.surge.specs.Equations.{floating, threeOf, flowOf, pushOf};
-ghost use Rattle.surge.specs.Step.{speedOf};
-ghost use Rattle.surge.specs.Passes.{bothOf, slopeOf, Sloping, sloping, SlopingFits, slopeRoom, Moving, moving, MovingFits, flowRoom, flowIn, speedIn};
+ghost use Rattle.surge.specs.Equations.{sea, count, Sums, floating, threeOf, flowOf, pushOf};
+ghost use Rattle.surge.specs.Step.{speedOf, row13Flow};
+ghost use Rattle.surge.specs.Passes.{bothOf, slopeOf, Sloping, sloping, SlopingFits, slopeRoom, Moving, moving, MovingFits, flowRoom, speedIn, Solving, solving, SolvingFits, risenRoom, solvedRoom};
 
 // What a triangle adds to Px and to Py of its corners.
 pub struct Slope {
@@ -79,7 +79,7 @@ fn spread_slope(work: &mut [f64], n: usize, c: Corners, s: Slope)
 }
 
 // Px and Py of every node, from zero.
-pub(crate) fn slopes(work: &mut [f64], x: &[i32], y: &[i32], tri: &[u16], state: &[f64])
+fn slopes(work: &mut [f64], x: &[i32], y: &[i32], tri: &[u16], state: &[f64])
     ghost { Sloping }
     requires { λ w. ⌜ sloping (now x) (now y) (now tri) (now state) (run (length (now x)) 0 (now work)) ≡ w ⌝ }
     requires { λ w. ⌜ SlopingFits w ⌝ }
@@ -155,7 +155,7 @@ fn write_flow(work: &mut [f64], n: usize, i: usize, f: Flow)
 }
 
 // Px and Py of every node become its U' and V', up to the first node that row 13 refuses.
-pub(crate) fn flows(
+fn flows(
     work: &mut [f64],
     p: Parameters,
     w: Wind,
@@ -194,4 +194,30 @@ pub(crate) fn flows(
         write_flow(work, n, i, f);
     }
     rows::accept()
+}
+
+// U' and V' of every node in the second and the third run of the work room, from z' in the first.
+pub(crate) fn velocities(
+    work: &mut [f64],
+    x: &[i32],
+    y: &[i32],
+    tri: &[u16],
+    h: &[f64],
+    kind: &[u8],
+    p: Parameters,
+    state: &[f64],
+    w: Wind,
+    f: Forcing,
+    sums: &[u64],
+) -> Answer
+    ghost { Solving }
+    requires { λ v. ⌜ solving (sea p w (now x) (now y) (now tri) (now h) (now state)) (now kind) f ≡ v ⌝ }
+    requires { λ v. ⌜ SolvingFits v ⌝ }
+    requires { λ v. ⌜ (now work ≡ risenRoom v) × (now sums ≡ table (count (v .sea)) (Sums (v .sea))) ⌝ }
+    ensures { λ v a. ⌜ a ≡ scan (row13Flow (v .sea) (v .kind) (v .f)) (count (v .sea)) ⌝ }
+    ensures { λ v a. ⌜ (a .number ≡ 0 → now (work .exit) ≡ solvedRoom v) ⌝ }
+{
+    slopes(work, x, y, tri, state);
+    let new = Wind { x: f.wx, y: f.wy };
+    flows(work, p, w, new, kind, h, state, sums)
 }

@@ -6,8 +6,8 @@ use Rattle.surge.specs.Equations.{sea}
 use Rattle.surge.specs.Passes.{Rising, rising, RisingFits, riseIn, levelIn, Solving, solving}
 use Rattle.surge.proofs.SolveLaws.{risen, risen-fits, all-rise, all-level}
 use borrow.Author.Needs.{needs}
-use Rattle.surge.proofs.stepping.raise.Statement.{statement}
-use Rattle.surge.proofs.stepping.raise.Tie as tie
+use Rattle.surge.proofs.stepping.elevation.raise.Statement.{statement}
+use Rattle.surge.proofs.stepping.elevation.raise.Tie as tie
 
 abbrev start : tie.After-assemble → tie.Start
 start m = m .before .before .before .before .before .before .before .before .before

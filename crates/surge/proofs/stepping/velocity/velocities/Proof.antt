@@ -6,8 +6,8 @@ use Rattle.surge.specs.Equations.{sea, triangles}
 use Rattle.surge.specs.Passes.{Sloping, sloping, SlopingFits, slopeRoom, Moving, moving, MovingFits, speedIn, flowRoom, Solving, solving}
 use Rattle.surge.proofs.SolveLaws.{sloped, sloped-fits, sloped-first, sloped-none, sloped-room, sloped-all, sloped-long, moved, moved-fits, moved-from, all-speed, all-flow}
 use borrow.Author.Needs.{needs}
-use Rattle.surge.proofs.stepping.velocities.Statement.{statement}
-use Rattle.surge.proofs.stepping.velocities.Tie as tie
+use Rattle.surge.proofs.stepping.velocity.velocities.Statement.{statement}
+use Rattle.surge.proofs.stepping.velocity.velocities.Tie as tie
 
 abbrev its : tie.Start → Solving
 its s = let a = s .args in solving (sea (a .p) (a .w) (a .x .now) (a .y .now) (a .tri .now) (a .h .now) (a .state .now)) (a .kind .now) (a .f)

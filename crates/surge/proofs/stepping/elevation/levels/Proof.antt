@@ -11,8 +11,8 @@ use Rattle.surge.specs.Equations.{sea, count}
 use Rattle.surge.specs.Passes.{Solving, solving, zeros}
 use Rattle.surge.proofs.RoomLaws.{front-zero, front-put}
 use borrow.Author.Needs.{needs}
-use Rattle.surge.proofs.stepping.levels.Statement.{statement}
-use Rattle.surge.proofs.stepping.levels.Tie as tie
+use Rattle.surge.proofs.stepping.elevation.levels.Statement.{statement}
+use Rattle.surge.proofs.stepping.elevation.levels.Tie as tie
 
 abbrev start : tie.After-clear → tie.Start
 start k = k .before .before .before .before .before .before .before .before
