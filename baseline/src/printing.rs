@@ -131,7 +131,7 @@ fn printed(input: &[u8], place: &mut usize) -> Result<Vec<u8>, Answer> {
 /// - lines 22 to 24: after the second step, V of nodes 0, 1, 2;
 /// - line 25: the clock's step number, a decimal.
 ///
-/// Lines 1 to 24 are binary64 patterns of 16 upper-case hexadecimal digits.
+/// Lines 1 to 24 are binary64 patterns of 16 lower-case hexadecimal digits.
 /// Both steps are accepted; a refusal would come back in place of the text.
 pub fn example_13() -> Result<String, Answer> {
     let mut run = Run::open()?;
@@ -142,7 +142,7 @@ pub fn example_13() -> Result<String, Answer> {
             ..Forcing::ZERO
         })?;
         for number in run.state {
-            text += &format!("{:016X}\n", number.to_bits());
+            text += &format!("{:016x}\n", number.to_bits());
         }
     }
     text += &format!("{}\n", run.clock.step);

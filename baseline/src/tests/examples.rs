@@ -142,7 +142,7 @@ fn example_13_as_text() {
         lent.forcing.wx = wx;
         lent.step_accepted();
         for pattern in bits(&lent.state) {
-            expected += &format!("{pattern:016X}\n");
+            expected += &format!("{pattern:016x}\n");
         }
     }
     expected += "2\n";

@@ -22,7 +22,7 @@ pub fn slope(v1: f64, v2: f64, v3: f64, c1: f64, c2: f64, c3: f64) -> f64
     (v1 * c1 + v2 * c2) + v3 * c3
 }
 
-pub fn means(n1: Node, n2: Node, n3: Node, s: Sides) -> Means
+pub(crate) fn means(n1: Node, n2: Node, n3: Node, s: Sides) -> Means
     ensures { λ r. ⌜ r ≡ means n1 n2 n3 s ⌝ }
 {
     let column1 = n1.h + n1.z;
@@ -42,21 +42,21 @@ pub fn means(n1: Node, n2: Node, n3: Node, s: Sides) -> Means
     }
 }
 
-pub fn jx(run: Parameters, w: Wind, m: Means, d: f64) -> f64
+pub(crate) fn jx(run: Parameters, w: Wind, m: Means, d: f64) -> f64
     ensures { λ r. ⌜ r ≡ Jx run w m d ⌝ }
 {
     ((((run.f * m.qy - (G * m.sx) / (2.0 * d)) + w.x) - run.k * m.ub) + (m.ub * m.z) / run.dt)
         + run.tau * m.qx
 }
 
-pub fn jy(run: Parameters, w: Wind, m: Means, d: f64) -> f64
+pub(crate) fn jy(run: Parameters, w: Wind, m: Means, d: f64) -> f64
     ensures { λ r. ⌜ r ≡ Jy run w m d ⌝ }
 {
     (((((-run.f) * m.qx - (G * m.sy) / (2.0 * d)) + w.y) - run.k * m.vb) + (m.vb * m.z) / run.dt)
         + run.tau * m.qy
 }
 
-pub fn corner(m: Means, d: f64, jx: f64, jy: f64, a: f64, b: f64) -> f64
+pub(crate) fn corner(m: Means, d: f64, jx: f64, jy: f64, a: f64, b: f64) -> f64
     ensures { λ r. ⌜ r ≡ corner m d jx jy a b ⌝ }
 {
     (jx * b + jy * a) / 2.0 - ((G * m.hb) * (m.gx * b + m.gy * a)) / (2.0 * d)

@@ -2,6 +2,7 @@
 use mathlib.Core.Path.{_≡_, refl, sym, ap, _∙_}
 use contract.Lifetimes.{Lfts}
 use borrow.Fn.Kinds.{Dens}
+use Rattle.frames.specs.Building.{Put, putOut}
 use Rattle.surge.specs.Open.{OpenOut, openOut}
 use Rattle.surge.specs.Step.{StepOut, stepOut}
 use Rattle.statements.specs.Determined.{Determined}
@@ -27,14 +28,6 @@ use Rattle.surge.proofs.open.Kinds as open-kinds
 use Rattle.surge.proofs.open.Reads as open-reads
 use Rattle.equations.proofs.elevation.slope.Kinds as slope-kinds
 use Rattle.equations.proofs.elevation.slope.Reads as slope-reads
-use Rattle.equations.proofs.elevation.means.Kinds as means-kinds
-use Rattle.equations.proofs.elevation.means.Reads as means-reads
-use Rattle.equations.proofs.elevation.jx.Kinds as jx-kinds
-use Rattle.equations.proofs.elevation.jx.Reads as jx-reads
-use Rattle.equations.proofs.elevation.jy.Kinds as jy-kinds
-use Rattle.equations.proofs.elevation.jy.Reads as jy-reads
-use Rattle.equations.proofs.elevation.corner.Kinds as corner-kinds
-use Rattle.equations.proofs.elevation.corner.Reads as corner-reads
 use Rattle.equations.proofs.elevation.shares.Kinds as shares-kinds
 use Rattle.equations.proofs.elevation.shares.Reads as shares-reads
 use Rattle.equations.proofs.elevation.lumped.Kinds as lumped-kinds
@@ -51,6 +44,22 @@ use Rattle.equations.proofs.outcomes.north.Kinds as north-kinds
 use Rattle.equations.proofs.outcomes.north.Reads as north-reads
 use Rattle.equations.proofs.outcomes.answer.Kinds as answer-kinds
 use Rattle.equations.proofs.outcomes.answer.Reads as answer-reads
+use Rattle.frames.proofs.patterns.pattern_of.Kinds as pattern-of-kinds
+use Rattle.frames.proofs.patterns.pattern_of.Reads as pattern-of-reads
+use Rattle.frames.proofs.patterns.float_of.Kinds as float-of-kinds
+use Rattle.frames.proofs.patterns.float_of.Reads as float-of-reads
+use Rattle.frames.proofs.lines.Line.begin.Kinds as begin-kinds
+use Rattle.frames.proofs.lines.Line.begin.Reads as begin-reads
+use Rattle.frames.proofs.lines.Line.append.Kinds as append-kinds
+use Rattle.frames.proofs.lines.Line.append.Reads as append-reads
+use Rattle.frames.proofs.lines.Line.seal.Kinds as seal-kinds
+use Rattle.frames.proofs.lines.Line.seal.Reads as seal-reads
+use Rattle.frames.proofs.reading.value.Kinds as value-kinds
+use Rattle.frames.proofs.reading.value.Reads as value-reads
+use Rattle.frames.proofs.reading.fault.Kinds as fault-kinds
+use Rattle.frames.proofs.reading.fault.Reads as fault-reads
+use Rattle.frames.proofs.lines.put.Kinds as put-kinds
+use Rattle.frames.proofs.lines.put.Reads as put-reads
 use Rattle.lists.proofs.slices.clear_whole.Kinds as clear-whole-kinds
 use Rattle.lists.proofs.slices.clear_whole.Reads as clear-whole-reads
 use Rattle.surge.proofs.step.Kinds as step-kinds
@@ -85,18 +94,6 @@ cold-determined κs a x y v w p q = (same p q, refl)
 pub slope-determined : Determined slope-kinds.ps slope-kinds.r slope-reads.Post
 slope-determined κs a x y v w p q = (same p q, refl)
 
-pub means-determined : Determined means-kinds.ps means-kinds.r means-reads.Post
-means-determined κs a x y v w p q = (same p q, refl)
-
-pub jx-determined : Determined jx-kinds.ps jx-kinds.r jx-reads.Post
-jx-determined κs a x y v w p q = (same p q, refl)
-
-pub jy-determined : Determined jy-kinds.ps jy-kinds.r jy-reads.Post
-jy-determined κs a x y v w p q = (same p q, refl)
-
-pub corner-determined : Determined corner-kinds.ps corner-kinds.r corner-reads.Post
-corner-determined κs a x y v w p q = (same p q, refl)
-
 pub shares-determined : Determined shares-kinds.ps shares-kinds.r shares-reads.Post
 shares-determined κs a x y v w p q = (same p q, refl)
 
@@ -121,6 +118,27 @@ north-determined κs a x y v w p q = (same p q, refl)
 pub answer-determined : Determined answer-kinds.ps answer-kinds.r answer-reads.Post
 answer-determined κs a x y v w p q = (same p q, refl)
 
+pub pattern-of-determined : Determined pattern-of-kinds.ps pattern-of-kinds.r pattern-of-reads.Post
+pattern-of-determined κs a x y v w p q = (same p q, refl)
+
+pub float-of-determined : Determined float-of-kinds.ps float-of-kinds.r float-of-reads.Post
+float-of-determined κs a x y v w p q = (same p q, refl)
+
+pub begin-determined : Determined begin-kinds.ps begin-kinds.r begin-reads.Post
+begin-determined κs a x y v w p q = (same p q, refl)
+
+pub append-determined : Determined append-kinds.ps append-kinds.r append-reads.Post
+append-determined κs a x y v w p q = (same p q, refl)
+
+pub seal-determined : Determined seal-kinds.ps seal-kinds.r seal-reads.Post
+seal-determined κs a x y v w p q = (same p q, refl)
+
+pub value-determined : Determined value-kinds.ps value-kinds.r value-reads.Post
+value-determined κs a x y v w p q = (same p q, refl)
+
+pub fault-determined : Determined fault-kinds.ps fault-kinds.r fault-reads.Post
+fault-determined κs a x y v w p q = (same p q, refl)
+
 -- ---- functions that write a slice
 pub clear-determined : Determined clear-kinds.ps clear-kinds.r clear-reads.Post
 clear-determined κs a x y v w p q = (refl, λ i. (same p q i, tt))
@@ -130,6 +148,11 @@ clear-whole-determined κs a x y v w p q = (refl, λ i. (same p q i, tt))
 
 pub copy-determined : Determined copy-kinds.ps copy-kinds.r copy-reads.Post
 copy-determined κs a x y v w p q = (refl, λ i. (same p q i, (tt, tt)))
+
+pub put-determined : Determined put-kinds.ps put-kinds.r put-reads.Post
+put-determined κs a x y v w p q =
+    let e : putOut x (v .0) ≡ putOut y (w .0) = same p q in
+    (ap (λ (o : Put). o .next) e, λ i. (e i .text, (tt, (tt, tt))))
 
 -- ---- calls
 pub open-determined : Determined open-kinds.ps open-kinds.r open-reads.Post

@@ -1,0 +1,73 @@
+// Example 13 of document 01: two steps on mesh T from a cold start. Each number of the state after each step is written as its binary64
+// pattern, one a line, and last the clock's step number. The file `stdout` beside src/ holds what the independent second program gives.
+use equations::Parameters;
+use libc::STDOUT_FILENO;
+use surge::Forcing;
+
+fn print_state(state: &[f64]) {
+    for i in 0..state.len() {
+        io::print_hex(STDOUT_FILENO, frames::patterns::pattern_of(state[i]), 16);
+        io::write_all(STDOUT_FILENO, b"\n");
+    }
+}
+
+fn main() {
+    let x = [0i32, 100, 0];
+    let y = [0i32, 0, 100];
+    let tri = [0u16, 1, 2];
+    let h = [8.0, 8.0, 8.0];
+    let kind = [0u8; 3];
+    let p = Parameters {
+        dt: 1.0,
+        tau: 0.0,
+        k: 0.0,
+        f: 0.0,
+    };
+    let mut state = [0.0; 12];
+    let mut next = [0.0; 12];
+    let mut work = [0.0; 9];
+    let mut sums = [0u64; 3];
+    let opened = surge::open(&mut state, &x, &y, &tri, &h, &kind, p);
+    let wind = Forcing {
+        elevation: 0.0,
+        wx: 0.015625,
+        wy: 0.0,
+    };
+    let one = surge::step(
+        &mut next,
+        &mut work,
+        &mut sums,
+        &state,
+        &x,
+        &y,
+        &tri,
+        &h,
+        &kind,
+        p,
+        opened.clock,
+        wind,
+    );
+    print_state(&next);
+    let calm = Forcing {
+        elevation: 0.0,
+        wx: 0.0,
+        wy: 0.0,
+    };
+    let two = surge::step(
+        &mut state,
+        &mut work,
+        &mut sums,
+        &next,
+        &x,
+        &y,
+        &tri,
+        &h,
+        &kind,
+        p,
+        one.clock,
+        calm,
+    );
+    print_state(&state);
+    io::print_decimal(STDOUT_FILENO, two.clock.step as u64);
+    io::write_all(STDOUT_FILENO, b"\n");
+}

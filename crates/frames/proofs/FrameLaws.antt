@@ -1,0 +1,95 @@
+-- Laws of a frame's line, once over its fields and its length: its bytes, how long it is, and how it is built.
+use Prim.Native.Nat.{ℕ, _+_, _-_, _*_, _%_, _≤_, _<_}
+use mathlib.Core.Path.{_≡_, refl, sym, ap, _∙_}
+use mathlib.Core.List.{List, [], _∷_, _++_, append-assoc, append-nil}
+use native.Mathlib.Nat.{mod-lt}
+use native.Mathlib.Omega.{arith}
+use lib.Dec.{lit<}
+use lib.ListN.{length, length-append}
+use Rattle.frames.specs.Bytes.{digits, bytes, field, sum, check}
+use Rattle.frames.specs.Frames.{Field, Frame, allFields, fieldBytes, checked, frameBytes, lineFeed, text, widths, dueDigits}
+use Rattle.frames.specs.Building.{room, holding, withFields, begun, sealed}
+use Rattle.frames.specs.Reading.{value}
+use Rattle.frames.proofs.ByteLaws.{Bytes, bytes-join, field-bytes, bytes-back, digits-join, digits-length, field-length}
+use Rattle.frames.proofs.NumberLaws.{sum-join}
+use Rattle.frames.proofs.BuildLaws.{field-digits, written-holding, appended-holding}
+
+-- ---- the bytes of fields
+pub fields-length : (fs : List Field) → length (fieldBytes fs) ≡ widths fs
+unfolding fieldBytes widths
+fields-length [] = refl
+fields-length (f ∷ fs) = length-append (field (f .width) (f .value)) (fieldBytes fs) ∙ rw (field-length (f .width) (f .value), fields-length fs)
+
+fields-bytes : (fs : List Field) → Bytes (fieldBytes fs)
+unfolding fieldBytes
+fields-bytes [] = tt
+fields-bytes (f ∷ fs) = bytes-join (field (f .width) (f .value)) (fieldBytes fs) (field-bytes (f .width) (f .value)) (fields-bytes fs)
+
+pub fields-join : (a b : List Field) → fieldBytes (a ++ b) ≡ fieldBytes a ++ fieldBytes b
+unfolding fieldBytes
+fields-join [] b = refl
+fields-join (f ∷ a) b =
+    ap (λ (l : List ℕ). field (f .width) (f .value) ++ l) (fields-join a b) ∙ sym (append-assoc (field (f .width) (f .value)) (fieldBytes a) (fieldBytes b))
+
+-- ---- the check byte
+checked-bytes : (bs : List ℕ) → Bytes bs → Bytes (checked bs)
+unfolding checked check
+checked-bytes bs p = bytes-join bs (check bs ∷ []) p (mod-lt (256 - sum bs % 256) (lit< tt), tt)
+
+-- "All frame bytes sum to 0 modulo 256."
+pub checked-sum : (bs : List ℕ) → sum (checked bs) % 256 ≡ 0
+unfolding checked check sum
+checked-sum bs = rw (sum-join bs (check bs ∷ [])) (omega arith)
+
+-- ---- a line that holds fields
+fields-holding : (t : List ℕ) (fs : List Field) → length t + 2 * widths fs ≤ room → withFields (holding t) fs ≡ holding (t ++ digits (fieldBytes fs))
+unfolding withFields fieldBytes widths digits
+fields-holding t [] h = ap holding (sym (append-nil t))
+fields-holding t (f ∷ fs) h =
+    let u = digits (field (f .width) (f .value)) in
+    let n : length u ≡ 2 * f .width = field-digits (f .width) (f .value) in
+    let m : length (t ++ u) ≡ length t + 2 * f .width = length-append t u ∙ rw n in
+    rw (appended-holding t u (omega arith))
+    (fields-holding (t ++ u) fs (omega arith)
+    ∙ ap holding (append-assoc t u (digits (fieldBytes fs)) ∙ ap (λ (l : List ℕ). t ++ l) (sym (digits-join (field (f .width) (f .value)) (fieldBytes fs)))))
+
+ending-length : (b : ℕ) → length (digits (b ∷ []) ++ (lineFeed ∷ [])) ≡ 3
+unfolding digits
+ending-length b = refl
+
+sealed-holding : (bs : List ℕ) → Bytes bs → length (digits bs) + 3 ≤ room → sealed (holding (digits bs)) ≡ holding (digits (checked bs) ++ (lineFeed ∷ []))
+unfolding sealed checked bytes
+sealed-holding bs p h =
+    let u = digits (check bs ∷ []) ++ (lineFeed ∷ []) in
+    let back : bytes (digits bs) ≡ bs = ap bytes (sym (append-nil (digits bs))) ∙ bytes-back bs [] p ∙ append-nil bs in
+    let fits : length (digits bs) + length u ≤ room = omega (arith, ending-length (check bs)) in
+    rw (written-holding, back, appended-holding (digits bs) u fits, digits-join bs (check bs ∷ []), append-assoc)
+
+-- ---- a frame's line
+module _ (f : Frame) where
+  pub frame-bytes : Bytes (frameBytes f)
+  frame-bytes = checked-bytes (fieldBytes (allFields f)) (fields-bytes (allFields f))
+
+  pub line-digits : length (digits (frameBytes f)) ≡ dueDigits (f .fields)
+  unfolding checked dueDigits widths
+  line-digits =
+      let b = fieldBytes (allFields f) in
+      digits-length (frameBytes f) ∙ rw (length-append b (check b ∷ []), fields-length (allFields f)) (omega arith)
+
+  -- two for each byte, and the line feed
+  pub text-length : length (text f) ≡ dueDigits (f .fields) + 1
+  unfolding text
+  text-length = length-append (digits (frameBytes f)) (lineFeed ∷ []) ∙ rw line-digits
+
+  -- the bytes that are read are those that were written
+  pub text-bytes : bytes (text f) ≡ frameBytes f
+  unfolding text bytes
+  text-bytes = bytes-back (frameBytes f) (lineFeed ∷ []) frame-bytes ∙ append-nil (frameBytes f)
+
+  -- ---- what is begun, appended and sealed is the frame's line
+  pub built : dueDigits (f .fields) < room → sealed (withFields (begun (f .kind) (f .sequence)) (f .fields)) ≡ holding (text f)
+  unfolding withFields widths dueDigits text
+  built h =
+      let b = fieldBytes (allFields f) in
+      let n : length (digits b) ≡ 2 * (3 + widths (f .fields)) = digits-length b ∙ rw (fields-length (allFields f)) (omega arith) in
+      ap sealed (fields-holding [] (allFields f) (omega arith)) ∙ sealed-holding b (fields-bytes (allFields f)) (omega arith)

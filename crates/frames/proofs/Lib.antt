@@ -1,0 +1,8 @@
+pub mod PatternLaws
+pub mod ByteLaws
+pub mod NumberLaws
+pub mod LaidLaws
+pub mod BuildLaws
+pub mod FrameLaws
+pub mod BackLaws
+pub mod Worked

@@ -1,0 +1,69 @@
+-- Document 01, "Frames": a frame as its kind, its sequence and its fields, and the line of text that it is.
+use Prim.Native.Nat.{ℕ, _+_, _*_, _^_, _<_, _≤_}
+use mathlib.Core.List.{List, [], _∷_, _++_}
+use lib.ListN.{getD, take}
+use Rattle.frames.specs.Bytes.{digits, field, check}
+
+-- a number and the bytes that it takes, as in "N (2), E (2), step (4), Wx, Wy"
+pub record Field : Type 0 where
+  pub width : ℕ
+  pub value : ℕ
+
+pub record Frame : Type 0 where
+  pub kind : ℕ
+  pub sequence : ℕ
+  pub fields : List Field
+
+abbrev pub wide : ℕ → ℕ → Field
+wide w v = record { width = w; value = v }
+
+-- values in fields of one width, as a node's "earlier z, z, U, V"
+unfoldable pub fieldsOf : ℕ → List ℕ → List Field
+fieldsOf w [] = []
+fieldsOf w (v ∷ vs) = wide w v ∷ fieldsOf w vs
+
+-- "kind byte, two-byte sequence, fields"
+abbrev pub opening : ℕ → ℕ → List Field
+opening kind sequence = wide 1 kind ∷ wide 2 sequence ∷ []
+
+abbrev pub allFields : Frame → List Field
+allFields f = opening (f .kind) (f .sequence) ++ f .fields
+
+unfoldable pub fieldBytes : List Field → List ℕ
+fieldBytes [] = []
+fieldBytes (f ∷ fs) = field (f .width) (f .value) ++ fieldBytes fs
+
+-- "fields, check byte"
+unfoldable pub checked : List ℕ → List ℕ
+checked bs = bs ++ (check bs ∷ [])
+
+abbrev pub frameBytes : Frame → List ℕ
+frameBytes f = checked (fieldBytes (allFields f))
+
+abbrev pub lineFeed : ℕ
+lineFeed = 10
+
+-- "one frame a line, ended by a line feed"
+unfoldable pub text : Frame → List ℕ
+text f = digits (frameBytes f) ++ (lineFeed ∷ [])
+
+-- the bytes that fields take
+unfoldable pub widths : List Field → ℕ
+widths [] = 0
+widths (f ∷ fs) = f .width + widths fs
+
+-- a line's digits, as in "56 digits": two for each byte of kind, sequence, fields and check byte
+unfoldable pub dueDigits : List Field → ℕ
+dueDigits fields = 2 * (4 + widths fields)
+
+-- field j of a frame, from 0, and the frame byte at which it starts
+abbrev pub fieldAt : List Field → ℕ → Field
+fieldAt fields j = getD fields j (wide 0 0)
+
+unfoldable pub startOf : List Field → ℕ → ℕ
+startOf fields j = 3 + widths (take j fields)
+
+-- a value that its field can hold
+pub record Held (f : Field) : Type 0 where
+  pub narrow : f .width ≤ 8
+  pub small : f .value < 256 ^ f .width

@@ -1,0 +1,4 @@
+pub mod Bytes
+pub mod Frames
+pub mod Building
+pub mod Reading

@@ -1,0 +1,64 @@
+// Upper-case hexadecimal, two digits for each byte.
+ghost use mathlib.Core.Path.{_≡_};
+ghost use Prim.Native.Nat.{_+_, _*_, _%_, _<_};
+ghost use lib.ListN.{length, getD};
+ghost use Rattle.frames.specs.Bytes.{digit, worth, bytes};
+ghost use Rattle.frames.specs.Reading.{tallied};
+
+pub(crate) fn digit(n: u8) -> u8
+    requires { ⌜ n < 16 ⌝ }
+    ensures { λ r. ⌜ r ≡ digit n ⌝ }
+{
+    if n < 10 { 48 + n } else { 55 + n }
+}
+
+// What a digit is worth, and 16 where it is no digit: the one place that knows what a digit is.
+fn worth(d: u8) -> u8
+    ensures { λ r. ⌜ r ≡ worth d ⌝ }
+{
+    if (48 <= d) & (d <= 57) {
+        return d - 48;
+    }
+    if (65 <= d) & (d <= 70) {
+        return d - 55;
+    }
+    16
+}
+
+// The byte of two digits, by what they are worth; what is no digit counts as 0.
+fn byte(high: u8, low: u8) -> u64
+    ensures { λ r. ⌜ r ≡ high % 16 * 16 + low % 16 ⌝ }
+{
+    (high as u64) % 16 * 16 + (low as u64) % 16
+}
+
+// Byte k of a text that is long enough.
+pub(crate) fn byte_at(text: &[u8], k: usize) -> u64
+    requires { ⌜ 2 * k + 1 < length (now text) ⌝ }
+    ensures { λ r. ⌜ r ≡ getD (bytes (now (text .entry))) k 0 ⌝ }
+{
+    byte(worth(text[2 * k]), worth(text[2 * k + 1]))
+}
+
+// The sum of a text's bytes, modulo 256, and whether they are made of digits.
+pub(crate) struct Tally {
+    pub sum: u64,
+    pub right: bool,
+}
+
+// Digits and sum in one pass.
+pub(crate) fn tallied(text: &[u8]) -> Tally
+    ensures { λ r. ⌜ r ≡ tallied (now (text .entry)) ⌝ }
+{
+    let mut sum: u64 = 0;
+    let mut right = true;
+    let mut i: usize = 0;
+    while i + 1 < text.len() {
+        let high = worth(text[i]);
+        let low = worth(text[i + 1]);
+        right = right & (high < 16) & (low < 16);
+        sum = (sum + byte(high, low)) % 256;
+        i += 2;
+    }
+    Tally { sum, right }
+}

@@ -1,0 +1,89 @@
+// A line while it is built. Appending is total: where there is no room, the line comes back unchanged.
+use crate::digits;
+ghost use mathlib.Core.Path.{_≡_};
+ghost use Rattle.frames.specs.Bytes.{digits, field};
+ghost use Rattle.frames.specs.Building.{appended, begun, sealed, putOut, putOf};
+
+// The digits of the longest line, and its line feed.
+const ROOM: usize = 73;
+
+const SEAL_ROOM: usize = ROOM - 3;
+
+pub struct Line {
+    bytes: [u8; ROOM],
+    len: usize,
+}
+
+impl Line {
+    pub fn begin(kind: u8, sequence: u64) -> Line
+        ensures { λ r. ⌜ r ≡ begun kind sequence ⌝ }
+    {
+        let blank = Line {
+            bytes: [0u8; ROOM],
+            len: 0,
+        };
+        blank.append(1, kind as u64).append(2, sequence)
+    }
+
+    // The lowest `width` bytes of the value, written from the last to the first, so that each is a remainder.
+    pub fn append(self, width: usize, value: u64) -> Line
+        ensures { λ r. ⌜ r ≡ appended self (digits (field width value)) ⌝ }
+    {
+        let at = self.len;
+        if ROOM < at {
+            return self;
+        }
+        if (ROOM - at) / 2 < width {
+            return self;
+        }
+        let mut line = self;
+        let mut rest = value;
+        let mut left = width;
+        while 0 < left {
+            left -= 1;
+            let byte = (rest % 256) as u8;
+            let place = at + 2 * left;
+            line.bytes[place + 1] = digits::digit(byte % 16);
+            line.bytes[place] = digits::digit(byte / 16);
+            rest = rest / 256;
+        }
+        line.len = at + 2 * width;
+        line
+    }
+
+    // The check byte and the line feed.
+    pub fn seal(self) -> Line
+        ensures { λ r. ⌜ r ≡ sealed self ⌝ }
+    {
+        let at = self.len;
+        if SEAL_ROOM < at {
+            return self;
+        }
+        let bytes = self.bytes;
+        let tally = digits::tallied(&bytes[0..at]);
+        let mut line = self.append(1, 256 - tally.sum);
+        line.bytes[at + 2] = b'\n';
+        line.len = at + 3;
+        line
+    }
+}
+
+// The line's bytes, put into a text at a place; the place after them comes back. Where they do not fit, nothing is written.
+pub fn put(text: &mut [u8], at: usize, line: Line) -> usize
+    ensures { λ r. ⌜ putOut r (now (text .exit)) ≡ putOf (now (text .entry)) at line ⌝ }
+{
+    let len = line.len;
+    let n = if len < ROOM { len } else { ROOM };
+    if text.len() < n {
+        return at;
+    }
+    if text.len() - n < at {
+        return at;
+    }
+    let mut k: usize = 0;
+    while k < n {
+        text[at + k] = line.bytes[k];
+        k += 1;
+    }
+    at + n
+}
