@@ -5,6 +5,7 @@ use borrow.Fn.Kinds.{Dens}
 use Rattle.frames.specs.Building.{Put, putOut}
 use Rattle.surge.specs.Open.{OpenOut, openOut}
 use Rattle.surge.specs.Step.{StepOut, stepOut}
+use Rattle.saves.specs.Save.{SaveOut, saveOut}
 use Rattle.statements.specs.Determined.{Determined}
 use Rattle.lists.proofs.rows.accept.Kinds as accept-kinds
 use Rattle.lists.proofs.rows.accept.Reads as accept-reads
@@ -22,8 +23,6 @@ use Rattle.lists.proofs.slices.clear.Kinds as clear-kinds
 use Rattle.lists.proofs.slices.clear.Reads as clear-reads
 use Rattle.lists.proofs.slices.copy.Kinds as copy-kinds
 use Rattle.lists.proofs.slices.copy.Reads as copy-reads
-use Rattle.surge.proofs.Clock.cold.Kinds as cold-kinds
-use Rattle.surge.proofs.Clock.cold.Reads as cold-reads
 use Rattle.surge.proofs.open.Kinds as open-kinds
 use Rattle.surge.proofs.open.Reads as open-reads
 use Rattle.equations.proofs.elevation.slope.Kinds as slope-kinds
@@ -62,6 +61,14 @@ use Rattle.frames.proofs.lines.put.Kinds as put-kinds
 use Rattle.frames.proofs.lines.put.Reads as put-reads
 use Rattle.lists.proofs.slices.clear_whole.Kinds as clear-whole-kinds
 use Rattle.lists.proofs.slices.clear_whole.Reads as clear-whole-reads
+use Rattle.surge.proofs.stepping.rows_to_10.Kinds as rows-to-10-kinds
+use Rattle.surge.proofs.stepping.rows_to_10.Reads as rows-to-10-reads
+use Rattle.surge.proofs.stepping.state.held_wind.Kinds as held-wind-kinds
+use Rattle.surge.proofs.stepping.state.held_wind.Reads as held-wind-reads
+use Rattle.saves.proofs.read_forcing.Kinds as read-forcing-kinds
+use Rattle.saves.proofs.read_forcing.Reads as read-forcing-reads
+use Rattle.saves.proofs.save.Kinds as save-kinds
+use Rattle.saves.proofs.save.Reads as save-reads
 use Rattle.surge.proofs.step.Kinds as step-kinds
 use Rattle.surge.proofs.step.Reads as step-reads
 
@@ -87,9 +94,6 @@ in-range-determined κs a x y v w p q = (same p q, refl)
 
 pub is-runs-determined : Determined is-runs-kinds.ps is-runs-kinds.r is-runs-reads.Post
 is-runs-determined κs a x y v w p q = (same p q, refl)
-
-pub cold-determined : Determined cold-kinds.ps cold-kinds.r cold-reads.Post
-cold-determined κs a x y v w p q = (same p q, refl)
 
 pub slope-determined : Determined slope-kinds.ps slope-kinds.r slope-reads.Post
 slope-determined κs a x y v w p q = (same p q, refl)
@@ -139,6 +143,12 @@ value-determined κs a x y v w p q = (same p q, refl)
 pub fault-determined : Determined fault-kinds.ps fault-kinds.r fault-reads.Post
 fault-determined κs a x y v w p q = (same p q, refl)
 
+pub rows-to-10-determined : Determined rows-to-10-kinds.ps rows-to-10-kinds.r rows-to-10-reads.Post
+rows-to-10-determined κs a x y v w p q = (same p q, refl)
+
+pub held-wind-determined : Determined held-wind-kinds.ps held-wind-kinds.r held-wind-reads.Post
+held-wind-determined κs a x y v w p q = (same p q, refl)
+
 -- ---- functions that write a slice
 pub clear-determined : Determined clear-kinds.ps clear-kinds.r clear-reads.Post
 clear-determined κs a x y v w p q = (refl, λ i. (same p q i, tt))
@@ -172,3 +182,17 @@ step-determined κs a x y v w p q =
 
 pub step-asks-nothing : (κs : Lfts 9) (a : Dens κs step-kinds.ps) → step-reads.Asked κs a
 step-asks-nothing κs a = tt
+
+pub save-determined : Determined save-kinds.ps save-kinds.r save-reads.Post
+save-determined κs a x y v w p q =
+    let e : saveOut x (v .0) ≡ saveOut y (w .0) = same p q in
+    (ap (λ (o : SaveOut). o .answer) e, λ i. (e i .text, (tt, (tt, (tt, (tt, (tt, (tt, (tt, (tt, tt))))))))))
+
+pub save-asks-nothing : (κs : Lfts 7) (a : Dens κs save-kinds.ps) → save-reads.Asked κs a
+save-asks-nothing κs a = tt
+
+pub read-forcing-determined : Determined read-forcing-kinds.ps read-forcing-kinds.r read-forcing-reads.Post
+read-forcing-determined κs a x y v w p q = (same p q, refl)
+
+pub read-forcing-asks-nothing : (κs : Lfts 1) (a : Dens κs read-forcing-kinds.ps) → read-forcing-reads.Asked κs a
+read-forcing-asks-nothing κs a = tt

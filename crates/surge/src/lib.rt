@@ -29,7 +29,7 @@ pub struct Forcing {
 
 impl Clock {
     // The clock of a cold start.
-    pub fn cold() -> Self
+    pub(crate) fn cold() -> Self
         ensures { λ r. ⌜ r ≡ coldClock ⌝ }
     {
         Clock {

@@ -1,6 +1,6 @@
 // A step: rows 10 to 13, and the equations.
 pub(crate) mod elevation;
-pub(crate) mod state;
+pub mod state;
 pub(crate) mod sums;
 pub(crate) mod velocity;
 
@@ -27,7 +27,7 @@ ghost use Rattle.surge.specs.Step.{given, before13};
 ghost use Rattle.surge.specs.Passes.{Solving, solving, SolvingFits, zeros, solvedRoom, solved};
 
 // Rows 1 to 10. `rooms`: the call's slices besides the mesh and the state have their lengths.
-pub(crate) fn rows_to_10(
+pub fn rows_to_10(
     rooms: bool,
     x: &[i32],
     y: &[i32],

@@ -53,7 +53,7 @@ pub(crate) fn count(clock: Clock) -> Answer
 }
 
 // Row 12 of the held wind.
-pub(crate) fn held_wind(clock: Clock) -> Answer
+pub fn held_wind(clock: Clock) -> Answer
     ensures { λ r. ⌜ r ≡ row12Held clock ⌝ }
 {
     let calm = rows::in_range(-0.1, clock.wx, 0.1) & rows::in_range(-0.1, clock.wy, 0.1);

@@ -1,0 +1,4 @@
+pub mod ForcingLaws
+pub mod LineLaws
+pub mod WriteLaws
+pub mod SaveLaws

@@ -1,0 +1,87 @@
+-- What a line of a save comes to: what is built is its text, and how long it is.
+use Prim.Native.Nat.{ℕ, zero, suc, _+_, _-_, _*_, _<_, _≤_}
+use mathlib.Core.Path.{_≡_, refl, ap, _∙_}
+use mathlib.Core.Bool.{Bool, true, false, cond}
+use mathlib.Core.List.{List, [], _∷_}
+use native.Mathlib.Omega.{arith}
+use borrow.Author.Tests.{lt-ltb, le-ltb, leb-true, leb-false}
+use lib.Dec.{ltb, leb, lit<}
+use lib.ListN.{length, length-append}
+use lib.Ieee.{Float}
+use Rattle.frames.specs.Frames.{text, dueDigits, widths, fieldsOf}
+use Rattle.frames.specs.Building.{begun, withFields, sealed, holding}
+use Rattle.frames.proofs.FrameLaws.{built, text-length}
+use Rattle.surge.specs.declared.Clock.{Clock}
+use Rattle.saves.specs.Lines.{head, stateValues, nodeLine, end, due, startOf, saveLength}
+use Rattle.saves.specs.Save.{lineOf, linesTo}
+
+-- ---- the three lines as they are built
+pub head-built : (n e : ℕ) (k : Clock) → sealed (withFields (begun 1 0) (head n e k .fields)) ≡ holding (text (head n e k))
+unfolding dueDigits widths
+head-built n e k = built (head n e k) (lit< tt)
+
+pub node-built : (i a b c d : ℕ) → sealed (withFields (begun 2 (i + 1)) (fieldsOf 8 (a ∷ b ∷ c ∷ d ∷ []))) ≡ holding (text (nodeLine i (a ∷ b ∷ c ∷ d ∷ [])))
+unfolding dueDigits widths fieldsOf
+node-built i a b c d = built (nodeLine i (a ∷ b ∷ c ∷ d ∷ [])) (lit< tt)
+
+pub end-built : (n : ℕ) → sealed (withFields (begun 3 (n + 1)) (end n .fields)) ≡ holding (text (end n))
+unfolding dueDigits widths
+end-built n = built (end n) (lit< tt)
+
+module _ (n e : ℕ) (state : List Float) (k : Clock) where
+  -- ---- which line is a node's, and which the last
+  pub line-node : (j : ℕ) → (j ≡ 0 → ⊥) → j ≤ n → lineOf n e state k j ≡ nodeLine (j - 1) (stateValues n state (j - 1))
+  unfolding lineOf
+  line-node zero h l = absurd (h refl)
+  line-node (suc i) h l =
+      let s : suc i - 1 ≡ i = omega arith in
+      rw (lt-ltb i n l, s)
+
+  pub line-last : (j : ℕ) → n < j → lineOf n e state k j ≡ end n
+  unfolding lineOf
+  line-last zero l = absurd (omega arith)
+  line-last (suc i) l = rw (le-ltb i n (omega arith))
+
+  -- ---- how long they are
+  pub line-long : (j : ℕ) → length (text (lineOf n e state k j)) ≡ due n j + 1
+  unfolding lineOf dueDigits widths fieldsOf
+  line-long zero = text-length (head n e k)
+  line-long (suc i) = go (ltb i n) refl
+    where
+      go : (b : Bool) → ltb i n ≡ b → length (text (cond b (nodeLine i (stateValues n state i)) (end n))) ≡ cond b 72 12 + 1
+      go true q = text-length (nodeLine i (stateValues n state i))
+      go false q = text-length (end n)
+
+  pub lines-long : (j : ℕ) → length (linesTo n e state k j) ≡ startOf n j
+  unfolding linesTo startOf
+  lines-long zero = refl
+  lines-long (suc j) = length-append (linesTo n e state k j) (text (lineOf n e state k j)) ∙ rw (lines-long j, line-long j)
+
+-- ---- where each line starts
+pub start-node : (n i : ℕ) → i ≤ n → startOf n (suc i) ≡ 57 + 73 * i
+unfolding startOf
+start-node n zero h = refl
+start-node n (suc i) h = rw (start-node n i (omega arith), lt-ltb i n (omega arith)) (omega arith)
+
+start-last : (n : ℕ) → startOf n (suc (suc n)) ≡ saveLength n
+unfolding startOf
+start-last n = rw (start-node n n (omega arith), le-ltb n n (omega arith)) (omega arith)
+
+-- "70+73N bytes"
+pub save-long : (n : ℕ) → startOf n (n + 2) ≡ saveLength n
+save-long n = ap (startOf n) (omega arith) ∙ start-last n
+
+start-none : (n : ℕ) → startOf n 0 ≡ 0
+unfolding startOf
+start-none n = refl
+
+-- no line starts past the end
+pub start-below : (n j : ℕ) → j ≤ n + 2 → startOf n j ≤ saveLength n
+start-below n zero h = rw (start-none n) (omega arith)
+start-below n (suc j) h = go (leb j n) refl
+  where
+    go : (b : Bool) → leb j n ≡ b → startOf n (suc j) ≤ saveLength n
+    go true q = rw (start-node n j (leb-true j n q)) (omega (arith, leb-true j n q))
+    go false q =
+        let last : j ≡ suc n = omega (arith, leb-false j n q) in
+        rw (last, start-last n) (omega arith)

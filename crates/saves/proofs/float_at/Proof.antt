@@ -1,0 +1,17 @@
+use mathlib.Core.Path.{ap, _∙_}
+use lib.Ieee.{binary64, ofBits}
+use borrow.Author.Needs.{needs}
+use Rattle.saves.proofs.float_at.Statement.{statement}
+use Rattle.saves.proofs.float_at.Tie as tie
+
+value-requires : tie.Need-value-requires
+value-requires c κs = search needs
+
+float-of-requires : tie.Need-float-of-requires
+float-of-requires c κs = search needs
+
+returns : tie.Need-returns
+returns c = c .float-of .ensures ∙ ap (ofBits binary64) (c .before .value .ensures)
+
+pub float-at-spec : {M : Type 1} → statement M
+float-at-spec = tie.close (tie.spec value-requires float-of-requires returns)

@@ -1,0 +1,73 @@
+use Prim.Native.Nat.{_+_, _-_, _≤_}
+use mathlib.Core.Path.{_≡_, ap, _∙_}
+use native.Mathlib.Omega.{arith}
+use borrow.Author.Needs.{needs}
+use lib.ListN.{length}
+use Rattle.saves.proofs.WriteLaws.{reached, soFar, reached-none, so-far-none, so-far-all, so-far-long, put-next}
+use Rattle.saves.proofs.writing.write.Statement.{statement}
+use Rattle.saves.proofs.writing.write.Tie as tie
+
+abbrev Inv-loop : tie.InvT-loop
+Inv-loop text₀ n e state clock count at₀ j₀ text at j =
+    (j ≤ count) × (at ≡ reached n e state clock j) × (text ≡ soFar n e state clock text₀ j)
+
+abbrev μ-loop : tie.MeasureT-loop
+μ-loop text₀ n e state clock count at₀ j₀ text at j = count - j
+
+add-count : tie.Need-add-count Inv-loop μ-loop
+add-count c = omega arith
+
+loop-holds : tie.Need-loop-holds Inv-loop μ-loop
+loop-holds c =
+    let a = c .before .before .args in
+    (omega arith, reached-none (a .n) (a .e) (a .state .now) (a .clock), so-far-none (a .n) (a .e) (a .state .now) (a .clock) (a .text .now))
+
+line-of-requires : tie.Need-line-of-requires Inv-loop μ-loop
+line-of-requires c κs = search needs
+
+put-requires : tie.Need-put-requires Inv-loop μ-loop
+put-requires c κs = search needs
+
+add-j : tie.Need-add-j Inv-loop μ-loop
+add-j c = omega arith
+
+loop-less : tie.Need-loop-less Inv-loop μ-loop
+loop-less c = omega arith
+
+loop-again : tie.Need-loop-again Inv-loop μ-loop
+loop-again c =
+    let u = c .before .before in
+    let p = u .before .before .before .before in
+    let a = p .before .before .before .args in
+    let i = p .loop .inv in
+    put-next (a .n) (a .e) (a .state .now) (a .clock) (a .text .now) (omega arith) (p .loop .j) (omega arith)
+    (i .2) (i .1) (u .before .line-of .ensures) (u .put .ensures)
+
+same-length : tie.Need-same-length Inv-loop μ-loop
+same-length c =
+    let p = c .before in
+    let a = p .before .before .before .args in
+    ap length (p .loop .inv .2) ∙ so-far-long (a .n) (a .e) (a .state .now) (a .clock) (a .text .now) (omega arith) (p .loop .j) (omega arith)
+
+returns : tie.Need-returns Inv-loop μ-loop
+returns c =
+    let p = c .before in
+    let a = p .before .before .before .args in
+    let last : p .loop .j ≡ a .n + 2 = omega arith in
+    p .loop .inv .2 ∙ rw last (so-far-all (a .n) (a .e) (a .state .now) (a .clock) (a .text .now))
+
+pub write-spec : {M : Type 1} → statement M
+write-spec =
+    tie.close
+    (tie.spec
+    Inv-loop
+    μ-loop
+    add-count
+    loop-holds
+    line-of-requires
+    put-requires
+    add-j
+    loop-less
+    loop-again
+    same-length
+    returns)

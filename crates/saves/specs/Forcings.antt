@@ -1,0 +1,22 @@
+-- Document 01: "Reading one forcing line against an expected sequence number gives 20, 21, 22, at place 0, and a refused one hands back a forcing of
+-- three +0."
+use Prim.Native.Nat.{ℕ}
+use mathlib.Core.Bool.{cond}
+use mathlib.Core.List.{List}
+use lib.Dec.{eqb}
+use Rattle.lists.specs.Scan.{plus0}
+use Rattle.frames.specs.Reading.{fault}
+use Rattle.surge.specs.declared.Forcing.{Forcing}
+use Rattle.saves.specs.declared.Taken.{Taken}
+use Rattle.saves.specs.Lines.{float}
+
+abbrev pub still : Forcing
+still = record { elevation = plus0; wx = plus0; wy = plus0 }
+
+unfoldable pub forcingOf : List ℕ → Forcing
+forcingOf line = record { elevation = float line 3; wx = float line 11; wy = float line 19 }
+
+unfoldable pub takenOf : List ℕ → ℕ → Taken
+takenOf line expected =
+    let a = fault line 56 16 expected 0 in
+    record { answer = a; forcing = cond (eqb (a .number) 0) (forcingOf line) still }

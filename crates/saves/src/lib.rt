@@ -1,0 +1,82 @@
+// Saves and forcing lines.
+pub(crate) mod writing;
+
+use equations::Parameters;
+use frames::patterns;
+use frames::reading;
+use lists::rows;
+use lists::rows::Answer;
+use surge::Clock;
+use surge::Forcing;
+use surge::stepping;
+use surge::stepping::state;
+ghost use mathlib.Core.Path.{_≡_};
+ghost use Rattle.surge.specs.Lent.{mesh};
+ghost use Rattle.saves.specs.Save.{saveOut, saveOf};
+ghost use Rattle.saves.specs.Forcings.{takenOf};
+ghost use Rattle.saves.specs.Lines.{float};
+
+// What reading a forcing line hands back.
+pub struct Taken {
+    pub answer: Answer,
+    pub forcing: Forcing,
+}
+
+// The float of the 8 bytes that start at a frame byte of a line.
+pub(crate) fn float_at(line: &[u8], at: usize) -> f64
+    ensures { λ r. ⌜ r ≡ float (now (line .entry)) at ⌝ }
+{
+    patterns::float_of(reading::value(line, at, 8))
+}
+
+// Reads one forcing line against the sequence number that is expected, which may be one that no line has.
+pub fn read_forcing(line: &[u8], expected: u32) -> Taken
+    ensures { λ r. ⌜ r ≡ takenOf (now (line .entry)) expected ⌝ }
+{
+    let answer = reading::fault(line, 56, 16, expected as u64, 0);
+    if answer.number != 0 {
+        return Taken {
+            answer,
+            forcing: Forcing {
+                elevation: 0.0,
+                wx: 0.0,
+                wy: 0.0,
+            },
+        };
+    }
+    let forcing = Forcing {
+        elevation: float_at(line, 3),
+        wx: float_at(line, 11),
+        wy: float_at(line, 19),
+    };
+    Taken { answer, forcing }
+}
+
+// Saves a run: rows 1 to 10, the held wind, the text room; then head, nodes and end. The place of an accepted answer is the bytes written.
+pub fn save(
+    text: &mut [u8],
+    state: &[f64],
+    x: &[i32],
+    y: &[i32],
+    tri: &[u16],
+    h: &[f64],
+    kind: &[u8],
+    p: Parameters,
+    clock: Clock,
+) -> Answer
+    ensures { λ r. ⌜ saveOut r (now (text .exit)) ≡ saveOf (mesh (now (x .entry)) (now (y .entry)) (now (tri .entry)) (now (h .entry)) (now (kind .entry))) p (now (state .entry)) clock (now (text .entry)) ⌝ }
+{
+    let lent = stepping::rows_to_10(true, x, y, tri, h, kind, p, state);
+    if lent.number != 0 {
+        return lent;
+    }
+    let n = x.len();
+    let room = 70 + 73 * n;
+    let fits = rows::tested(room <= text.len(), 24, room);
+    let rest = rows::first(state::held_wind(clock), fits);
+    if rest.number != 0 {
+        return rest;
+    }
+    writing::write(text, n, tri.len() / 3, state, clock);
+    rows::refuse(0, room)
+}
