@@ -5,4 +5,4 @@ pub mod LaidLaws
 pub mod BuildLaws
 pub mod FrameLaws
 pub mod BackLaws
-pub mod Worked
+mod Worked

@@ -2,3 +2,9 @@ pub mod ForcingLaws
 pub mod LineLaws
 pub mod WriteLaws
 pub mod SaveLaws
+pub mod SpanLaws
+pub mod FillLaws
+pub mod LoadLaws
+pub mod BackLaws
+pub mod OwnLaws
+pub mod HeldLaws

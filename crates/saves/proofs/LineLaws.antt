@@ -71,7 +71,7 @@ start-last n = rw (start-node n n (omega arith), le-ltb n n (omega arith)) (omeg
 pub save-long : (n : ℕ) → startOf n (n + 2) ≡ saveLength n
 save-long n = ap (startOf n) (omega arith) ∙ start-last n
 
-start-none : (n : ℕ) → startOf n 0 ≡ 0
+pub start-none : (n : ℕ) → startOf n 0 ≡ 0
 unfolding startOf
 start-none n = refl
 

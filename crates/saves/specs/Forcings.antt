@@ -8,7 +8,7 @@ use Rattle.lists.specs.Scan.{plus0}
 use Rattle.frames.specs.Reading.{fault}
 use Rattle.surge.specs.declared.Forcing.{Forcing}
 use Rattle.saves.specs.declared.Taken.{Taken}
-use Rattle.saves.specs.Lines.{float}
+use Rattle.saves.specs.Load.{float}
 
 abbrev pub still : Forcing
 still = record { elevation = plus0; wx = plus0; wy = plus0 }

@@ -1,3 +1,4 @@
 pub mod Lines
 pub mod Save
+pub mod Load
 pub mod Forcings

@@ -1,11 +1,11 @@
 -- Document 01, "Frames": the lines of a save and a forcing line, each as one description that writing and reading share.
 use Prim.Native.Nat.{ℕ, zero, suc, _+_, _*_}
-use mathlib.Core.List.{List, [], _∷_}
+use mathlib.Core.List.{List, [], _∷_, _++_}
 use mathlib.Core.Bool.{cond}
 use lib.Dec.{ltb}
-use lib.Ieee.{Float, binary64, toBits, ofBits}
-use Rattle.frames.specs.Frames.{Field, Frame, wide, fieldsOf}
-use Rattle.frames.specs.Reading.{value}
+use lib.ListN.{length}
+use lib.Ieee.{Float, binary64, toBits}
+use Rattle.frames.specs.Frames.{Field, Frame, wide, fieldsOf, text}
 use Rattle.surge.specs.declared.Clock.{Clock}
 use Rattle.surge.specs.declared.Forcing.{Forcing}
 use Rattle.surge.specs.State.{inRun}
@@ -37,6 +37,10 @@ abbrev pub forcingLine : ℕ → Forcing → Frame
 forcingLine s f = record { kind = 16; sequence = s; fields = fieldsOf 8 (bits (f .elevation) ∷ bits (f .wx) ∷ bits (f .wy) ∷ []) }
 
 -- ---- what is due at line j of a save of n nodes
+abbrev pub dueKind : ℕ → ℕ → ℕ
+dueKind n zero = 1
+dueKind n (suc i) = cond (ltb i n) 2 3
+
 abbrev pub due : ℕ → ℕ → ℕ
 due n zero = 56
 due n (suc i) = cond (ltb i n) 72 12
@@ -49,7 +53,3 @@ startOf n (suc j) = startOf n j + (due n j + 1)
 -- "A save is head, nodes, end: 70+73N bytes."
 abbrev pub saveLength : ℕ → ℕ
 saveLength n = 70 + 73 * n
-
--- "a NaN's pattern is read as the one NaN": the float of the 8 bytes at a frame byte of a line
-abbrev pub float : List ℕ → ℕ → Float
-float line at = ofBits binary64 (value line at 8)

@@ -6,6 +6,7 @@ use Rattle.frames.specs.Building.{Put, putOut}
 use Rattle.surge.specs.Open.{OpenOut, openOut}
 use Rattle.surge.specs.Step.{StepOut, stepOut}
 use Rattle.saves.specs.Save.{SaveOut, saveOut}
+use Rattle.saves.specs.Load.{LoadOut, loadOut}
 use Rattle.statements.specs.Determined.{Determined}
 use Rattle.lists.proofs.rows.accept.Kinds as accept-kinds
 use Rattle.lists.proofs.rows.accept.Reads as accept-reads
@@ -69,6 +70,12 @@ use Rattle.saves.proofs.read_forcing.Kinds as read-forcing-kinds
 use Rattle.saves.proofs.read_forcing.Reads as read-forcing-reads
 use Rattle.saves.proofs.save.Kinds as save-kinds
 use Rattle.saves.proofs.save.Reads as save-reads
+use Rattle.surge.proofs.mesh.check.Kinds as check-kinds
+use Rattle.surge.proofs.mesh.check.Reads as check-reads
+use Rattle.surge.proofs.stepping.state.in_bounds.Kinds as in-bounds-kinds
+use Rattle.surge.proofs.stepping.state.in_bounds.Reads as in-bounds-reads
+use Rattle.saves.proofs.load.Kinds as load-kinds
+use Rattle.saves.proofs.load.Reads as load-reads
 use Rattle.surge.proofs.step.Kinds as step-kinds
 use Rattle.surge.proofs.step.Reads as step-reads
 
@@ -149,6 +156,12 @@ rows-to-10-determined κs a x y v w p q = (same p q, refl)
 pub held-wind-determined : Determined held-wind-kinds.ps held-wind-kinds.r held-wind-reads.Post
 held-wind-determined κs a x y v w p q = (same p q, refl)
 
+pub check-determined : Determined check-kinds.ps check-kinds.r check-reads.Post
+check-determined κs a x y v w p q = (same p q, refl)
+
+pub in-bounds-determined : Determined in-bounds-kinds.ps in-bounds-kinds.r in-bounds-reads.Post
+in-bounds-determined κs a x y v w p q = (same p q, refl)
+
 -- ---- functions that write a slice
 pub clear-determined : Determined clear-kinds.ps clear-kinds.r clear-reads.Post
 clear-determined κs a x y v w p q = (refl, λ i. (same p q i, tt))
@@ -196,3 +209,11 @@ read-forcing-determined κs a x y v w p q = (same p q, refl)
 
 pub read-forcing-asks-nothing : (κs : Lfts 1) (a : Dens κs read-forcing-kinds.ps) → read-forcing-reads.Asked κs a
 read-forcing-asks-nothing κs a = tt
+
+pub load-determined : Determined load-kinds.ps load-kinds.r load-reads.Post
+load-determined κs a x y v w p q =
+    let e : loadOut x (v .0) ≡ loadOut y (w .0) = same p q in
+    (ap (λ (o : LoadOut). o .loaded) e, λ i. (e i .state, (tt, (tt, (tt, (tt, (tt, (tt, (tt, (tt, tt))))))))))
+
+pub load-asks-nothing : (κs : Lfts 7) (a : Dens κs load-kinds.ps) → load-reads.Asked κs a
+load-asks-nothing κs a = tt

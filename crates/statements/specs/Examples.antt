@@ -1,21 +1,28 @@
 -- Document 01, "Examples": those marked P, as one table. Each entry has what the definitions give beside what the document says.
-use Prim.Native.Nat.{ℕ}
+use Prim.Native.Nat.{ℕ, _%_}
 use mathlib.Core.Path.{_≡_}
-use mathlib.Core.List.{List, [], _∷_, map}
+use mathlib.Core.List.{List, [], _∷_, _++_, map}
 use lib.IntN.{ℤ, pos, negsuc}
 use lib.ListN.{length, replicate}
 use Rattle.lists.specs.declared.rows.Answer.{Answer}
 use Rattle.lists.specs.Scan.{accepted, refused, decimal}
 use Rattle.equations.specs.declared.Parameters.{Parameters}
 use Rattle.surge.specs.declared.mesh.geometry.WholeSides.{WholeSides}
-use Rattle.surge.specs.Lent.{Mesh, mesh, N, corners, coldState}
+use Rattle.frames.specs.Bytes.{bytes, sum}
+use Rattle.frames.specs.Frames.{text}
+use Rattle.surge.specs.Lent.{Mesh, mesh, N, corners, coldState, coldClock}
 use Rattle.surge.specs.Geometry.{sides, D}
 use Rattle.surge.specs.Open.{openAnswer}
+use Rattle.saves.specs.Lines.{head, end}
+use Rattle.saves.specs.Save.{linesTo, saveText}
+use Rattle.saves.specs.Load.{loadAnswer}
 
--- what an example speaks of: the a, b and D of a triangle, or the whole answer of a call: number, place and value
+-- what an example speaks of: the a, b and D of a triangle, the whole answer of a call (number, place and value), a count, or a text
 pub data Outcome : Type 0 where
   triangle : WholeSides → ℤ → Outcome
   answer : Answer → Outcome
+  count : ℕ → Outcome
+  characters : List ℕ → Outcome
 
 pub record Example : Type 0 where
   pub gives : Outcome
@@ -42,6 +49,18 @@ geometry m = let s = sides (m .x) (m .y) (corners (m .tri) 0) in triangle s (D s
 abbrev pub opening : Mesh → Outcome
 opening m = answer (openAnswer m T-parameters (coldState (N m)))
 
+-- "010000000300010000000000000000000000000000000000000000FB", the head of T when cold, with these last two digits, and the line feed
+unfoldable pub head-with : ℕ → ℕ → List ℕ
+head-with high low = 48 ∷ 49 ∷ replicate 7 48 ++ (51 ∷ 48 ∷ 48 ∷ 48 ∷ 49 ∷ []) ++ replicate 40 48 ++ (high ∷ low ∷ 10 ∷ [])
+
+-- "0300040003F6", the end of T, with this last digit of its sequence and this of its check byte, and the line feed
+unfoldable pub end-with : ℕ → ℕ → List ℕ
+end-with sequence check = 48 ∷ 51 ∷ 48 ∷ 48 ∷ 48 ∷ sequence ∷ 48 ∷ 48 ∷ 48 ∷ 51 ∷ 70 ∷ check ∷ 10 ∷ []
+
+-- what loading a text on T answers, with a state of 4N
+abbrev pub loading : List ℕ → Outcome
+loading t = answer (loadAnswer (like-T (T-x 100) T-y (0 ∷ 1 ∷ 2 ∷ [])) T-parameters t (coldState 3))
+
 abbrev pub example : Outcome → Outcome → Example
 example g s = record { gives = g; says = s }
 
@@ -65,6 +84,20 @@ examples =
     ∷ example (opening (like-T (T-x 100) T-y (0 ∷ 1 ∷ 2 ∷ 0 ∷ 1 ∷ 2 ∷ []))) (answer (refused 6 1))
     -- 7. "N 4 with triangle 0 1 2: 7, place 3."
     ∷ example (opening (like-T (pos 0 ∷ pos 100 ∷ pos 0 ∷ pos 7 ∷ []) (pos 0 ∷ pos 0 ∷ pos 100 ∷ pos 7 ∷ []) (0 ∷ 1 ∷ 2 ∷ []))) (answer (refused 7 3))
+    -- the head and the end of a cold save of T are those shown
+    ∷ example (characters (text (head 3 1 coldClock))) (characters (head-with 70 66))
+    ∷ example (characters (text (end 3))) (characters (end-with 52 54))
+    -- 8. "head above sums to 0; with FA it is 21."
+    ∷ example (count (sum (bytes (head-with 70 66)) % 256)) (count 0)
+    ∷ example (loading (head-with 70 65)) (answer (refused 21 0))
+    -- 9. "lower-case `fb`: 20."
+    ∷ example (loading (head-with 102 98)) (answer (refused 20 0))
+    -- 10. "end line with sequence 5 and check F5: 22."
+    ∷ example (loading (linesTo 3 1 (coldState 3) coldClock 4 ++ end-with 53 53)) (answer (refused 22 4))
+    -- with sequence 4 and check F6 it is accepted
+    ∷ example (loading (linesTo 3 1 (coldState 3) coldClock 4 ++ end-with 52 54)) (answer accepted)
+    -- 12. "save length 289 at N 3."
+    ∷ example (count (length (saveText 3 1 (coldState 3) coldClock))) (count 289)
     ∷ []
 
 -- the one statement: what the definitions give is what the document says

@@ -38,7 +38,7 @@ fn parameters(p: Parameters) -> Answer
 }
 
 // Rows 1 to 9. Row 6 is tested only where a mesh is opened.
-pub(crate) fn check(
+pub fn check(
     rooms: bool,
     opening: bool,
     x: &[i32],

@@ -24,7 +24,8 @@ pub(crate) fn node_of(h: &[f64], state: &[f64], i: usize) -> Node
     }
 }
 
-fn in_bounds(c: Node) -> bool
+// Row 10 of one node.
+pub fn in_bounds(c: Node) -> bool
     ensures { λ r. ⌜ r ≡ inBounds c ⌝ }
 {
     let level = rows::in_range(-30.0, c.earlier, 30.0) & rows::in_range(-30.0, c.z, 30.0);

@@ -1,0 +1,122 @@
+-- The way back, line by line: what is read of a save's text is what was written.
+use Prim.Native.Nat.{ℕ, zero, suc, _+_, _*_, _^_, _<_, _≤_}
+use mathlib.Core.Path.{_≡_, refl, ap, _∙_}
+use mathlib.Core.Bool.{Bool, true, false, cond, _||_}
+use mathlib.Core.List.{List, _++_, append-assoc}
+use mathlib.Core.Logic.{⊎-elim}
+use native.Mathlib.Nat.{not-suc-le-zero, le-of-suc-le-suc, eq-or-lt-of-le}
+use native.Mathlib.Omega.{arith}
+use borrow.Author.Tests.{lt-ltb, ltb-true, ltb-false, eq-eqb}
+use lib.Dec.{T, ltb, eqb, lit<, lit≤}
+use lib.ListN.{length, getD}
+use lib.Seq.{take-at, drop-at}
+use lib.Ieee.{Float, nan, binary64, fits, ofBits}
+use Rattle.lists.specs.Scan.{accepted}
+use Rattle.lists.proofs.ScanLaws.{row-holds, then-next}
+use Rattle.frames.specs.Frames.{text, dueDigits, widths, fieldsOf, startOf}
+use Rattle.frames.specs.Reading.{value, fault}
+use Rattle.frames.proofs.BackLaws.{line-fine, field-back, values-back}
+use Rattle.frames.proofs.PatternLaws.{pattern-fits, float-back}
+use Rattle.surge.specs.declared.Clock.{Clock}
+use Rattle.surge.specs.State.{nodeOf}
+use Rattle.saves.specs.Lines.{head, stateValues, nodeLine, end, due, dueKind, bits}
+use Rattle.saves.specs.Save.{lineOf, linesTo, saveText}
+use Rattle.saves.specs.Load.{lineAt, float, row23, lineRows, clockOf, loadedNode}
+use Rattle.saves.proofs.LineLaws.{line-long, lines-long}
+
+module _ (n e : ℕ) (state : List Float) (k : Clock) where
+  -- line j of the first m lines, whatever follows them
+  line-among : (m j : ℕ) (rest : List ℕ) → j < m → lineAt n (linesTo n e state k m ++ rest) j ≡ text (lineOf n e state k j)
+  unfolding linesTo
+  line-among zero j rest h = absurd (not-suc-le-zero h)
+  line-among (suc m) j rest h =
+      rw append-assoc (⊎-elim here (λ l. line-among m j (text (lineOf n e state k m) ++ rest) l) (eq-or-lt-of-le (le-of-suc-le-suc h)))
+    where
+      here : j ≡ m → lineAt n (linesTo n e state k m ++ (text (lineOf n e state k m) ++ rest)) j ≡ text (lineOf n e state k j)
+      here q = rw (q, drop-at _ _ _ (lines-long n e state k m), take-at _ _ _ (line-long n e state k m))
+
+  -- each line of a save's text is the line that was written, whatever follows the text
+  pub line-back : (rest : List ℕ) (j : ℕ) → j < n + 2 → lineAt n (saveText n e state k ++ rest) j ≡ text (lineOf n e state k j)
+  line-back rest j h = line-among (n + 2) j rest h
+
+  module _ (few : n ≤ 4096) where
+    -- rows 20, 21, 22 over the line that was written, and then 23
+    fault-fine : (j : ℕ) → j < n + 2 → fault (text (lineOf n e state k j)) (due n j) (dueKind n j) j j ≡ accepted
+    unfolding lineOf dueDigits widths fieldsOf
+    fault-fine zero h = line-fine (head n e k) 0 (lit< tt) (lit< tt)
+    fault-fine (suc i) h = go (ltb i n) refl
+      where
+        go : (b : Bool) → ltb i n ≡ b → fault (text (cond b (nodeLine i (stateValues n state i)) (end n))) (cond b 72 12) (cond b 2 3) (suc i) (suc i) ≡ accepted
+        go true q =
+            ap (λ (s : ℕ). fault (text (nodeLine i (stateValues n state i))) 72 2 s (suc i)) (omega arith)
+            ∙ line-fine (nodeLine i (stateValues n state i)) (suc i) (lit< tt) (omega (arith, ltb-true i n q))
+        go false q =
+            ap (λ (s : ℕ). fault (text (end n)) 12 3 s (suc i)) (omega (arith, ltb-false i n q))
+            ∙ line-fine (end n) (suc i) (lit< tt) (omega arith)
+
+    module _ (few-triangles : e < 65536) where
+      head-same : row23 n e (text (head n e k)) 0 ≡ accepted
+      unfolding row23 startOf widths
+      head-same =
+          let its-n : value (text (head n e k)) 3 2 ≡ n = field-back (head n e k) 0 (lit< tt) (record { narrow = lit≤ tt; small = omega arith }) in
+          let its-e : value (text (head n e k)) 5 2 ≡ e = field-back (head n e k) 1 (lit< tt) (record { narrow = lit≤ tt; small = few-triangles }) in
+          row-holds 23 0 (rw (eq-eqb _ _ its-n, eq-eqb _ _ its-e))
+
+      counts-same : (j : ℕ) → j < n + 2 → row23 n e (text (lineOf n e state k j)) j ≡ accepted
+      unfolding lineOf row23 startOf widths
+      counts-same zero h = head-same
+      counts-same (suc i) h = row-holds 23 (suc i) (go (ltb i n) refl)
+        where
+          go : (b : Bool) → ltb i n ≡ b → (b || eqb (value (text (cond b (nodeLine i (stateValues n state i)) (end n))) 3 2) n) ≡ true
+          go true q = refl
+          go false q = eq-eqb _ _ (field-back (end n) 0 (lit< tt) (record { narrow = lit≤ tt; small = omega arith }))
+
+      -- no line of a save's text is refused by 20, 21, 22 or 23
+      pub lines-fine : (rest : List ℕ) (j : ℕ) → j < n + 2 → lineRows n e (saveText n e state k ++ rest) j ≡ accepted
+      unfolding lineRows
+      lines-fine rest j h = rw (line-back rest j h, fault-fine j h) (then-next accepted _ refl ∙ counts-same j h)
+
+-- ---- a run whose numbers a save's fields can hold
+-- a step of 4 bytes and two binary64 values
+pub record HeldClock (k : Clock) : Type 0 where
+  pub step : k .step < 256 ^ 4
+  pub wx : T (fits binary64 (k .wx))
+  pub wy : T (fits binary64 (k .wy))
+
+-- four runs of n binary64 values
+pub record HeldState (n : ℕ) (state : List Float) : Type 0 where
+  pub long : length state ≡ 4 * n
+  pub values : (j : ℕ) → j < length state → T (fits binary64 (getD state j nan))
+
+-- a value whose pattern is read is read back
+pattern-read : (x : Float) {p : ℕ} → T (fits binary64 x) → p ≡ bits x → ofBits binary64 p ≡ x
+pattern-read x h q = ap (ofBits binary64) q ∙ float-back x h
+
+module _ (e : ℕ) (state : List Float) (k : Clock) (rest : List ℕ) where
+  -- the clock that is read of a save's text is the one that was saved
+  pub clock-back : (n : ℕ) → HeldClock k → clockOf n (saveText n e state k ++ rest) ≡ k
+  unfolding clockOf lineOf startOf widths
+  clock-back n s =
+      let l = head n e k in
+      let its-step : value (text l) 7 4 ≡ k .step = field-back l 2 (lit< tt) (record { narrow = lit≤ tt; small = s .step }) in
+      let its-wx = pattern-read (k .wx) (s .wx) (field-back l 3 (lit< tt) (record { narrow = lit≤ tt; small = pattern-fits (k .wx) (s .wx) })) in
+      let its-wy = pattern-read (k .wy) (s .wy) (field-back l 4 (lit< tt) (record { narrow = lit≤ tt; small = pattern-fits (k .wy) (s .wy) })) in
+      rw (line-back n e state k rest 0 (omega arith)) (λ i. record { step = its-step i; wx = its-wx i; wy = its-wy i })
+
+  module _ (n : ℕ) (s : HeldState n state) (h : List Float) (q : length h ≡ n) (i : ℕ) (l : i < n) where
+    float-read : (j : ℕ) → j < 4 → (x : Float) → getD (stateValues n state i) j 0 ≡ bits x → T (fits binary64 x)
+        → float (text (nodeLine i (stateValues n state i))) (3 + 8 * j) ≡ x
+    float-read j b x p f = pattern-read x f (values-back 8 2 (i + 1) (stateValues n state i) j b (lit≤ tt) (rw p (pattern-fits x f)) ∙ p)
+
+    -- the values of node i that are read of a save's text are those that the state has there
+    pub node-back : loadedNode h (saveText n e state k ++ rest) i ≡ nodeOf h state i
+    unfolding loadedNode lineOf
+    node-back =
+        rw (q, line-back n e state k rest (suc i) (omega arith), lt-ltb i n l)
+        (λ j. record {
+          h = getD h i nan;
+          earlier = float-read 0 (lit< tt) _ refl (s .values (0 * n + i) (omega arith)) j;
+          z = float-read 1 (lit< tt) _ refl (s .values (1 * n + i) (omega arith)) j;
+          u = float-read 2 (lit< tt) _ refl (s .values (2 * n + i) (omega arith)) j;
+          v = float-read 3 (lit< tt) _ refl (s .values (3 * n + i) (omega arith)) j;
+        })

@@ -1,0 +1,60 @@
+use mathlib.Core.Path.{ap, _∙_}
+use mathlib.Core.List.{List}
+use Prim.Native.Nat.{ℕ}
+use native.Mathlib.Omega.{arith}
+use Rattle.frames.specs.Reading.{value}
+use Rattle.saves.specs.Load.{float, clockOf}
+use Rattle.saves.proofs.SpanLaws.{step-small}
+use borrow.Author.Needs.{needs}
+use Rattle.saves.proofs.loading.clock_of.Statement.{statement}
+use Rattle.saves.proofs.loading.clock_of.Tie as tie
+
+standing-requires : tie.Need-standing-requires
+standing-requires c κs = search needs
+
+sub-head : tie.Need-sub-head
+sub-head c = search needs
+
+part-head-start : tie.Need-part-head-start
+part-head-start c = search needs
+
+part-head-end : tie.Need-part-head-end
+part-head-end c = search needs
+
+value-requires : tie.Need-value-requires
+value-requires c κs = search needs
+
+cast-t11 : tie.Need-cast-t11
+cast-t11 c = omega (arith, step-small _ (c .value .ensures))
+
+float-at-requires : tie.Need-float-at-requires
+float-at-requires c κs = search needs
+
+float-at-requires-2 : tie.Need-float-at-requires-2
+float-at-requires-2 c κs = search needs
+
+returns : tie.Need-returns
+unfolding clockOf
+returns c =
+    let f = c .before in
+    let v = f .before in
+    let line = v .before .before .standing .ensures .2 in
+    λ i. record {
+      step = (v .value .ensures ∙ ap (λ (l : List ℕ). value l 7 4) line) i;
+      wx = (f .float-at .ensures ∙ ap (λ (l : List ℕ). float l 11) line) i;
+      wy = (c .float-at2 .ensures ∙ ap (λ (l : List ℕ). float l 19) line) i;
+    }
+
+pub clock-of-spec : {M : Type 1} → statement M
+clock-of-spec =
+    tie.close
+    (tie.spec
+    standing-requires
+    sub-head
+    part-head-start
+    part-head-end
+    value-requires
+    cast-t11
+    float-at-requires
+    float-at-requires-2
+    returns)

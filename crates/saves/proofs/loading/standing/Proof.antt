@@ -1,0 +1,47 @@
+use Prim.Native.Nat.{_+_}
+use mathlib.Core.Path.{_≡_, _∙_}
+use native.Mathlib.Omega.{arith}
+use lib.ListN.{take, drop}
+use Rattle.saves.specs.Load.{lineAt}
+use Rattle.saves.proofs.LineLaws.{start-below}
+use Rattle.saves.proofs.SpanLaws.{due-most, clip-none, clip-some, clip-all}
+use borrow.Author.Needs.{needs}
+use Rattle.saves.proofs.loading.standing.Statement.{statement}
+use Rattle.saves.proofs.loading.standing.Tie as tie
+
+its : (c : tie.After-due) → let a = c .before .before .before .args in
+    take (c .due .result + 1) (drop (c .before .start .result) (a .text .now)) ≡ lineAt (a .n) (a .text .now) (a .j)
+its c = λ i. take (c .due .ensures i + 1) (drop (c .before .start .ensures i) (c .before .before .before .args .text .now))
+
+start-requires : tie.Need-start-requires
+start-requires c κs = search needs
+
+due-requires : tie.Need-due-requires
+due-requires c κs = search needs
+
+add-to : tie.Need-add-to
+add-to c = let a = c .before .before .before .args in omega (arith, c .due .ensures, due-most (a .n) (a .j))
+
+add-to-2 : tie.Need-add-to-2
+add-to-2 c =
+    let s = c .before .before .before in
+    omega (arith, c .due .ensures, due-most (s .args .n) (s .args .j), c .before .start .ensures, s .pre .0, start-below (s .args .n) (s .args .j) (omega (arith, s .pre .1)))
+
+returns : tie.Need-returns
+returns c =
+    let d = c .before in
+    (omega arith, omega arith, clip-none (d .before .before .before .args .text .now) (d .before .start .result) (d .due .result + 1) (c .if1 .taken) ∙ its d)
+
+returns-2 : tie.Need-returns-2
+returns-2 c =
+    let d = c .before .before in
+    (omega arith, omega arith, clip-some (d .before .before .before .args .text .now) (d .before .start .result) (d .due .result + 1) (c .if2 .taken) ∙ its d)
+
+returns-3 : tie.Need-returns-3
+returns-3 c =
+    let d = c .before .before in
+    (omega arith, omega arith, clip-all (d .before .before .before .args .text .now) (d .before .start .result) (d .due .result + 1) ∙ its d)
+
+pub standing-spec : {M : Type 1} → statement M
+standing-spec =
+    tie.close (tie.spec start-requires due-requires add-to add-to-2 returns returns-2 returns-3)

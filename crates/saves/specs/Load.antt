@@ -1,0 +1,82 @@
+-- Document 01: a load. "A load goes through the lines, from 0, in each 20, 21, 22, 23, the length being that of the kind due there for the run's N,
+-- and a missing line being of wrong length; then trailing bytes (20, line N+2); then 12 for the head's wind (place 0), then 10 over the loaded values."
+use Prim.Native.Nat.{ℕ, zero, suc, _+_}
+use mathlib.Core.Bool.{false, cond, _&&_, _||_}
+use mathlib.Core.List.{List, [], _∷_}
+use lib.Dec.{eqb, leb, ltb}
+use lib.ListN.{length, getD, take, drop}
+use lib.Ieee.{Float, nan, binary64, ofBits}
+use Rattle.lists.specs.declared.rows.Answer.{Answer}
+use Rattle.lists.specs.Table.{table}
+use Rattle.lists.specs.Runs.{isRuns, room}
+use Rattle.lists.specs.Scan.{row, _then_, scan}
+use Rattle.equations.specs.declared.Parameters.{Parameters}
+use Rattle.equations.specs.declared.Node.{Node}
+use Rattle.frames.specs.Reading.{value, fault}
+use Rattle.surge.specs.declared.Clock.{Clock}
+use Rattle.surge.specs.Lent.{Mesh, N, E}
+use Rattle.surge.specs.Rows.{rows1to9}
+use Rattle.surge.specs.State.{inBounds, row12Held}
+use Rattle.saves.specs.declared.Loaded.{Loaded}
+use Rattle.saves.specs.Lines.{dueKind, due, startOf, saveLength}
+
+-- line j of a text, as much of it as there is: "a missing line being of wrong length"
+abbrev pub lineAt : ℕ → List ℕ → ℕ → List ℕ
+lineAt n t j = take (due n j + 1) (drop (startOf n j) t)
+
+-- "a NaN's pattern is read as the one NaN": the float of the 8 bytes at a frame byte
+abbrev pub float : List ℕ → ℕ → Float
+float line at = ofBits binary64 (value line at 8)
+
+-- | 23 | N or E differs | line |: at the head for N or E, at the end line for N
+unfoldable pub row23 : ℕ → ℕ → List ℕ → ℕ → Answer
+row23 n e line zero = row (eqb (value line 3 2) n && eqb (value line 5 2) e) 23 0
+row23 n e line (suc i) = row (ltb i n || eqb (value line 3 2) n) 23 (suc i)
+
+-- "in each 20, 21, 22, 23"
+unfoldable pub lineRows : ℕ → ℕ → List ℕ → ℕ → Answer
+lineRows n e t j = fault (lineAt n t j) (due n j) (dueKind n j) j j then row23 n e (lineAt n t j) j
+
+-- the head's clock, and the values of node i
+unfoldable pub clockOf : ℕ → List ℕ → Clock
+clockOf n t = let l = lineAt n t 0 in record { step = value l 7 4; wx = float l 11; wy = float l 19 }
+
+unfoldable pub loadedNode : List Float → List ℕ → ℕ → Node
+loadedNode h t i =
+    let l = lineAt (length h) t (suc i) in
+    record { h = getD h i nan; earlier = float l 3; z = float l 11; u = float l 19; v = float l 27 }
+
+-- row 10 over the loaded values, "with their node"
+abbrev pub row10Read : List Float → List ℕ → ℕ → Answer
+row10Read h t i = row (inBounds (loadedNode h t i)) 10 i
+
+-- the rows of a text: its lines, "then trailing bytes (20, line N+2); then 12 for the head's wind (place 0), then 10"
+abbrev pub textRows : ℕ → ℕ → List Float → List ℕ → Answer
+textRows n e h t =
+    scan (lineRows n e t) (n + 2)
+    then row (leb (length t) (saveLength n)) 20 (n + 2)
+    then row12Held (clockOf n t)
+    then scan (row10Read h t) n
+
+unfoldable pub loadAnswer : Mesh → Parameters → List ℕ → List Float → Answer
+loadAnswer m p t state = rows1to9 (isRuns (length state) 4 (N m)) false m p then textRows (N m) (E m) (m .h) t
+
+-- the loaded state: "four runs of N: earlier elevation, present elevation z, U, V"
+unfoldable pub loadedState : List Float → List ℕ → List Float
+loadedState h t =
+    let n = length h in
+    let c = loadedNode h t in
+    room (table n (λ i. c i .earlier) ∷ table n (λ i. c i .z) ∷ table n (λ i. c i .u) ∷ table n (λ i. c i .v) ∷ [])
+
+pub record LoadOut : Type 0 where
+  pub loaded : Loaded
+  pub state : List Float
+
+abbrev pub loadOut : Loaded → List Float → LoadOut
+loadOut l s = record { loaded = l; state = s }
+
+-- a refusal leaves state and clock as found
+unfoldable pub loadOf : Mesh → Parameters → List ℕ → List Float → Clock → LoadOut
+loadOf m p t state k =
+    let a = loadAnswer m p t state in
+    cond (eqb (a .number) 0) (loadOut (record { answer = a; clock = clockOf (N m) t }) (loadedState (m .h) t)) (loadOut (record { answer = a; clock = k }) state)

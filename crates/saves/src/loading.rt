@@ -1,0 +1,201 @@
+// The lines of a save, read back: the rows of a load, the clock and the state that the lines hold.
+use super::float_at;
+use equations::Node;
+use frames::reading;
+use lists::rows;
+use lists::rows::Answer;
+use surge::Clock;
+use surge::stepping::state;
+ghost use mathlib.Core.Path.{_≡_};
+ghost use Prim.Native.Nat.{_+_, _-_, _*_, _<_, _≤_};
+ghost use lib.ListN.{length, take, drop, set};
+ghost use Rattle.lists.specs.Scan.{scan};
+ghost use Rattle.saves.specs.Lines.{dueKind, due, startOf};
+ghost use Rattle.saves.specs.Load.{lineAt, row23, lineRows, clockOf, loadedNode, row10Read, textRows, loadedState};
+
+// Where a line stands in a text.
+struct Span {
+    from: usize,
+    to: usize,
+}
+
+// The digits due at line j: head, nodes, end.
+fn due(n: usize, j: usize) -> usize
+    ensures { λ r. ⌜ r ≡ due n j ⌝ }
+{
+    if j == 0 {
+        return 56;
+    }
+    if j <= n { 72 } else { 12 }
+}
+
+// The kind due at line j.
+fn due_kind(n: usize, j: usize) -> u8
+    ensures { λ r. ⌜ r ≡ dueKind n j ⌝ }
+{
+    if j == 0 {
+        return 1;
+    }
+    if j <= n { 2 } else { 3 }
+}
+
+// Where line j starts: past a head of 57 bytes and nodes of 73.
+fn start(n: usize, j: usize) -> usize
+    requires { ⌜ (n ≤ 4096) × (j ≤ n + 1) ⌝ }
+    ensures { λ r. ⌜ r ≡ startOf n j ⌝ }
+{
+    if j == 0 {
+        return 0;
+    }
+    57 + 73 * (j - 1)
+}
+
+// A line that the text breaks off is as much of it as there is, which is of wrong length.
+fn standing(n: usize, text: &[u8], j: usize) -> Span
+    requires { ⌜ (n ≤ 4096) × (j ≤ n + 1) ⌝ }
+    ensures { λ r. ⌜ (r .from ≤ r .to) × (r .to ≤ length (now (text .entry))) × (take (r .to - r .from) (drop (r .from) (now (text .entry))) ≡ lineAt n (now (text .entry)) j) ⌝ }
+{
+    let long = text.len();
+    let from = start(n, j);
+    let to = from + (due(n, j) + 1);
+    if long < from {
+        return Span {
+            from: long,
+            to: long,
+        };
+    }
+    if long < to {
+        return Span { from, to: long };
+    }
+    Span { from, to }
+}
+
+// Row 23 of line j.
+fn counts(n: usize, e: usize, line: &[u8], j: usize) -> Answer
+    ensures { λ r. ⌜ r ≡ row23 n e (now (line .entry)) j ⌝ }
+{
+    let same = reading::value(line, 3, 2) == n as u64;
+    if j == 0 {
+        return rows::tested(same & (reading::value(line, 5, 2) == e as u64), 23, 0);
+    }
+    rows::tested((j <= n) | same, 23, j)
+}
+
+// Rows 20 to 23 of line j.
+fn line_row(n: usize, e: usize, text: &[u8], j: usize) -> Answer
+    requires { ⌜ (n ≤ 4096) × (j ≤ n + 1) ⌝ }
+    ensures { λ r. ⌜ r ≡ lineRows n e (now (text .entry)) j ⌝ }
+{
+    let at = standing(n, text, j);
+    let from = at.from;
+    let to = at.to;
+    let line = &text[from..to];
+    let fault = reading::fault(line, due(n, j), due_kind(n, j), j as u64, j);
+    rows::first(fault, counts(n, e, line, j))
+}
+
+// Rows 20 to 23: the first line that is not as it is due.
+fn lines(n: usize, e: usize, text: &[u8]) -> Answer
+    requires { ⌜ n ≤ 4096 ⌝ }
+    ensures { λ r. ⌜ r ≡ scan (lineRows n e (now (text .entry))) (n + 2) ⌝ }
+{
+    let count = n + 2;
+    for j in 0..count {
+        let answer = line_row(n, e, text, j);
+        if answer.number != 0 {
+            return answer;
+        }
+    }
+    rows::accept()
+}
+
+// The clock that the head holds.
+pub(crate) fn clock_of(n: usize, text: &[u8]) -> Clock
+    requires { ⌜ n ≤ 4096 ⌝ }
+    ensures { λ r. ⌜ r ≡ clockOf n (now (text .entry)) ⌝ }
+{
+    let at = standing(n, text, 0);
+    let from = at.from;
+    let to = at.to;
+    let head = &text[from..to];
+    Clock {
+        step: reading::value(head, 7, 4) as u32,
+        wx: float_at(head, 11),
+        wy: float_at(head, 19),
+    }
+}
+
+// Node i, as its line holds it.
+fn node_at(h: &[f64], text: &[u8], i: usize) -> Node
+    requires { ⌜ (i < length (now h)) × (length (now h) ≤ 4096) ⌝ }
+    ensures { λ r. ⌜ r ≡ loadedNode (now (h .entry)) (now (text .entry)) i ⌝ }
+{
+    let at = standing(h.len(), text, i + 1);
+    let from = at.from;
+    let to = at.to;
+    let line = &text[from..to];
+    Node {
+        h: h[i],
+        earlier: float_at(line, 3),
+        z: float_at(line, 11),
+        u: float_at(line, 19),
+        v: float_at(line, 27),
+    }
+}
+
+// Row 10 of one loaded node.
+fn bound(h: &[f64], text: &[u8], i: usize) -> Answer
+    requires { ⌜ (i < length (now h)) × (length (now h) ≤ 4096) ⌝ }
+    ensures { λ r. ⌜ r ≡ row10Read (now (h .entry)) (now (text .entry)) i ⌝ }
+{
+    rows::tested(state::in_bounds(node_at(h, text, i)), 10, i)
+}
+
+// Row 10: the first loaded node that is out of its bounds.
+fn bounds(h: &[f64], text: &[u8]) -> Answer
+    requires { ⌜ length (now h) ≤ 4096 ⌝ }
+    ensures { λ r. ⌜ r ≡ scan (row10Read (now (h .entry)) (now (text .entry))) (length (now (h .entry))) ⌝ }
+{
+    for i in 0..h.len() {
+        let answer = bound(h, text, i);
+        if answer.number != 0 {
+            return answer;
+        }
+    }
+    rows::accept()
+}
+
+// The rows of a text against a mesh: its lines, trailing bytes, the head's wind, the loaded values.
+pub(crate) fn text_rows(e: usize, h: &[f64], text: &[u8]) -> Answer
+    requires { ⌜ length (now h) ≤ 4096 ⌝ }
+    ensures { λ r. ⌜ r ≡ textRows (length (now (h .entry))) e (now (h .entry)) (now (text .entry)) ⌝ }
+{
+    let n = h.len();
+    let read = lines(n, e, text);
+    let over = rows::tested(text.len() <= 70 + 73 * n, 20, n + 2);
+    let wind = state::held_wind(clock_of(n, text));
+    let values = bounds(h, text);
+    rows::first(read, rows::first(over, rows::first(wind, values)))
+}
+
+// Node i's values into the four runs.
+fn put_node(state: &mut [f64], n: usize, i: usize, c: Node)
+    requires { ⌜ (i < n) × (length (now state) ≡ 4 * n) ⌝ }
+    ensures { λ _. ⌜ now (state .exit) ≡ set (set (set (set (now (state .entry)) i (c .earlier)) (n + i) (c .z)) (2 * n + i) (c .u)) (3 * n + i) (c .v) ⌝ }
+{
+    state[i] = c.earlier;
+    state[n + i] = c.z;
+    state[2 * n + i] = c.u;
+    state[3 * n + i] = c.v;
+}
+
+// The loaded state, where the text's rows have passed.
+pub(crate) fn fill(state: &mut [f64], h: &[f64], text: &[u8])
+    requires { ⌜ (length (now h) ≤ 4096) × (length (now state) ≡ 4 * length (now h)) ⌝ }
+    ensures { λ _. ⌜ now (state .exit) ≡ loadedState (now (h .entry)) (now (text .entry)) ⌝ }
+{
+    let n = h.len();
+    for i in 0..n {
+        put_node(state, n, i, node_at(h, text, i));
+    }
+}
