@@ -106,6 +106,7 @@ module _ (e : ℕ) (state : List Float) (k : Clock) (rest : List ℕ) where
   module _ (n : ℕ) (s : HeldState n state) (h : List Float) (q : length h ≡ n) (i : ℕ) (l : i < n) where
     float-read : (j : ℕ) → j < 4 → (x : Float) → getD (stateValues n state i) j 0 ≡ bits x → T (fits binary64 x)
         → float (text (nodeLine i (stateValues n state i))) (3 + 8 * j) ≡ x
+    unfolding fieldsOf
     float-read j b x p f = pattern-read x f (values-back 8 2 (i + 1) (stateValues n state i) j b (lit≤ tt) (rw p (pattern-fits x f)) ∙ p)
 
     -- the values of node i that are read of a save's text are those that the state has there

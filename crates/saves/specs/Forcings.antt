@@ -8,15 +8,18 @@ use Rattle.lists.specs.Scan.{plus0}
 use Rattle.frames.specs.Reading.{fault}
 use Rattle.surge.specs.declared.Forcing.{Forcing}
 use Rattle.saves.specs.declared.Taken.{Taken}
+use Rattle.saves.specs.Lines.{forcingLayout, byteOf, digitsOf}
 use Rattle.saves.specs.Load.{float}
 
 abbrev pub still : Forcing
 still = record { elevation = plus0; wx = plus0; wy = plus0 }
 
 unfoldable pub forcingOf : List ℕ → Forcing
-forcingOf line = record { elevation = float line 3; wx = float line 11; wy = float line 19 }
+forcingOf line =
+    let at = byteOf (forcingLayout .widths) in
+    record { elevation = float line (at 0); wx = float line (at 1); wy = float line (at 2) }
 
 unfoldable pub takenOf : List ℕ → ℕ → Taken
 takenOf line expected =
-    let a = fault line 56 16 expected 0 in
+    let a = fault line (digitsOf (forcingLayout .widths)) (forcingLayout .kind) expected 0 in
     record { answer = a; forcing = cond (eqb (a .number) 0) (forcingOf line) still }

@@ -1,49 +1,82 @@
 -- Document 01, "Frames": the lines of a save and a forcing line, each as one description that writing and reading share.
 use Prim.Native.Nat.{ℕ, zero, suc, _+_, _*_}
-use mathlib.Core.List.{List, [], _∷_, _++_}
+use mathlib.Core.List.{List, [], _∷_}
 use mathlib.Core.Bool.{cond}
 use lib.Dec.{ltb}
-use lib.ListN.{length}
 use lib.Ieee.{Float, binary64, toBits}
-use Rattle.frames.specs.Frames.{Field, Frame, wide, fieldsOf, text}
+use Rattle.frames.specs.Frames.{Field, Frame, wide}
 use Rattle.surge.specs.declared.Clock.{Clock}
-use Rattle.surge.specs.declared.Forcing.{Forcing}
 use Rattle.surge.specs.State.{inRun}
 
 -- "floats are their 8-byte patterns"
 abbrev pub bits : Float → ℕ
 bits x = toBits binary64 x
 
--- "01 head, sequence 0: N (2), E (2), step (4), Wx, Wy. 56 digits."
-abbrev pub headFields : ℕ → ℕ → Clock → List Field
-headFields n e k = wide 2 n ∷ wide 2 e ∷ wide 4 (k .step) ∷ wide 8 (bits (k .wx)) ∷ wide 8 (bits (k .wy)) ∷ []
+-- ---- the line kinds: the kind byte, and how many bytes each field has. Writing and reading share them
+pub record Layout : Type 0 where
+  pub kind : ℕ
+  pub widths : List ℕ
 
+-- "01 head: N (2), E (2), step (4), Wx, Wy."
+abbrev pub headLayout : Layout
+headLayout = record { kind = 1; widths = 2 ∷ 2 ∷ 4 ∷ 8 ∷ 8 ∷ [] }
+
+-- "02 node: earlier z, z, U, V."
+abbrev pub nodeLayout : Layout
+nodeLayout = record { kind = 2; widths = 8 ∷ 8 ∷ 8 ∷ 8 ∷ [] }
+
+-- "03 end: N (2)."
+abbrev pub endLayout : Layout
+endLayout = record { kind = 3; widths = 2 ∷ [] }
+
+-- "10 forcing: elevation, Wx', Wy'."
+abbrev pub forcingLayout : Layout
+forcingLayout = record { kind = 16; widths = 8 ∷ 8 ∷ 8 ∷ [] }
+
+-- the line of this layout with these values in its fields
+abbrev pub laidOut : List ℕ → List ℕ → List Field
+laidOut [] vs = []
+laidOut (w ∷ ws) [] = []
+laidOut (w ∷ ws) (v ∷ vs) = wide w v ∷ laidOut ws vs
+
+abbrev pub line : Layout → ℕ → List ℕ → Frame
+line l sequence values = record { kind = l .kind; sequence = sequence; fields = laidOut (l .widths) values }
+
+-- "56 digits", "72 digits", "12 digits": two for each byte of kind, sequence, fields and check byte
+abbrev pub digitsOf : List ℕ → ℕ
+digitsOf [] = 8
+digitsOf (w ∷ ws) = 2 * w + digitsOf ws
+
+-- the byte of a line at which field j starts: past kind and sequence, and the fields before it
+abbrev pub byteOf : List ℕ → ℕ → ℕ
+byteOf ws zero = 3
+byteOf [] (suc j) = 3
+byteOf (w ∷ ws) (suc j) = w + byteOf ws j
+
+-- ---- the lines of a save
+-- "sequence 0"
 abbrev pub head : ℕ → ℕ → Clock → Frame
-head n e k = record { kind = 1; sequence = 0; fields = headFields n e k }
+head n e k = line headLayout 0 (n ∷ e ∷ k .step ∷ bits (k .wx) ∷ bits (k .wy) ∷ [])
 
--- "02 node i, sequence i+1: earlier z, z, U, V. 72 digits."
+-- "sequence i+1"
 abbrev pub stateValues : ℕ → List Float → ℕ → List ℕ
 stateValues n state i = bits (inRun n 0 state i) ∷ bits (inRun n 1 state i) ∷ bits (inRun n 2 state i) ∷ bits (inRun n 3 state i) ∷ []
 
 abbrev pub nodeLine : ℕ → List ℕ → Frame
-nodeLine i values = record { kind = 2; sequence = i + 1; fields = fieldsOf 8 values }
+nodeLine i values = line nodeLayout (i + 1) values
 
--- "03 end, sequence N+1: N (2). 12 digits."
+-- "sequence N+1"
 abbrev pub end : ℕ → Frame
-end n = record { kind = 3; sequence = n + 1; fields = wide 2 n ∷ [] }
-
--- "10 forcing, its own sequence from 0 to 65,535: elevation, Wx', Wy'. 56 digits."
-abbrev pub forcingLine : ℕ → Forcing → Frame
-forcingLine s f = record { kind = 16; sequence = s; fields = fieldsOf 8 (bits (f .elevation) ∷ bits (f .wx) ∷ bits (f .wy) ∷ []) }
+end n = line endLayout (n + 1) (n ∷ [])
 
 -- ---- what is due at line j of a save of n nodes
 abbrev pub dueKind : ℕ → ℕ → ℕ
-dueKind n zero = 1
-dueKind n (suc i) = cond (ltb i n) 2 3
+dueKind n zero = headLayout .kind
+dueKind n (suc i) = cond (ltb i n) (nodeLayout .kind) (endLayout .kind)
 
 abbrev pub due : ℕ → ℕ → ℕ
-due n zero = 56
-due n (suc i) = cond (ltb i n) 72 12
+due n zero = digitsOf (headLayout .widths)
+due n (suc i) = cond (ltb i n) (digitsOf (nodeLayout .widths)) (digitsOf (endLayout .widths))
 
 -- the lines before line j, as characters: where it starts
 unfoldable pub startOf : ℕ → ℕ → ℕ

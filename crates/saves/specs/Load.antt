@@ -18,7 +18,7 @@ use Rattle.surge.specs.Lent.{Mesh, N, E}
 use Rattle.surge.specs.Rows.{rows1to9}
 use Rattle.surge.specs.State.{inBounds, row12Held}
 use Rattle.saves.specs.declared.Loaded.{Loaded}
-use Rattle.saves.specs.Lines.{dueKind, due, startOf, saveLength}
+use Rattle.saves.specs.Lines.{headLayout, nodeLayout, endLayout, byteOf, dueKind, due, startOf, saveLength}
 
 -- line j of a text, as much of it as there is: "a missing line being of wrong length"
 abbrev pub lineAt : ℕ → List ℕ → ℕ → List ℕ
@@ -30,8 +30,8 @@ float line at = ofBits binary64 (value line at 8)
 
 -- | 23 | N or E differs | line |: at the head for N or E, at the end line for N
 unfoldable pub row23 : ℕ → ℕ → List ℕ → ℕ → Answer
-row23 n e line zero = row (eqb (value line 3 2) n && eqb (value line 5 2) e) 23 0
-row23 n e line (suc i) = row (ltb i n || eqb (value line 3 2) n) 23 (suc i)
+row23 n e line zero = row (eqb (value line (byteOf (headLayout .widths) 0) 2) n && eqb (value line (byteOf (headLayout .widths) 1) 2) e) 23 0
+row23 n e line (suc i) = row (ltb i n || eqb (value line (byteOf (endLayout .widths) 0) 2) n) 23 (suc i)
 
 -- "in each 20, 21, 22, 23"
 unfoldable pub lineRows : ℕ → ℕ → List ℕ → ℕ → Answer
@@ -39,12 +39,16 @@ lineRows n e t j = fault (lineAt n t j) (due n j) (dueKind n j) j j then row23 n
 
 -- the head's clock, and the values of node i
 unfoldable pub clockOf : ℕ → List ℕ → Clock
-clockOf n t = let l = lineAt n t 0 in record { step = value l 7 4; wx = float l 11; wy = float l 19 }
+clockOf n t =
+    let l = lineAt n t 0 in
+    let at = byteOf (headLayout .widths) in
+    record { step = value l (at 2) 4; wx = float l (at 3); wy = float l (at 4) }
 
 unfoldable pub loadedNode : List Float → List ℕ → ℕ → Node
 loadedNode h t i =
     let l = lineAt (length h) t (suc i) in
-    record { h = getD h i nan; earlier = float l 3; z = float l 11; u = float l 19; v = float l 27 }
+    let at = byteOf (nodeLayout .widths) in
+    record { h = getD h i nan; earlier = float l (at 0); z = float l (at 1); u = float l (at 2); v = float l (at 3) }
 
 -- row 10 over the loaded values, "with their node"
 abbrev pub row10Read : List Float → List ℕ → ℕ → Answer
