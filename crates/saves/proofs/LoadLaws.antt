@@ -5,29 +5,17 @@ use mathlib.Core.Bool.{false}
 use mathlib.Core.List.{List}
 use native.Mathlib.Omega.{arith}
 use borrow.Author.Tests.{eqb-true, eq-eqb, ne-eqb}
-use lib.Dec.{leb}
 use lib.ListN.{length}
 use lib.Ieee.{Float}
 use Rattle.lists.specs.declared.rows.Answer.{Answer}
 use Rattle.lists.specs.Runs.{isRuns}
-use Rattle.lists.specs.Scan.{row, _then_, scan}
 use Rattle.lists.proofs.ScanLaws.{same-number, other-number, stops, goes}
 use Rattle.equations.specs.declared.Parameters.{Parameters}
 use Rattle.surge.specs.declared.Clock.{Clock}
 use Rattle.surge.specs.Lent.{Mesh, N, E}
 use Rattle.surge.specs.Rows.{rows1to9}
-use Rattle.surge.specs.State.{inBounds, row12Held}
 use Rattle.surge.proofs.AcceptedLaws.{accepted, accepted-rooms}
-use Rattle.saves.specs.Lines.{saveLength}
-use Rattle.saves.specs.Load.{lineRows, clockOf, loadedNode, loadAnswer, loadedState, loadOut, loadOf}
-
--- the rows of a text against n nodes
-abbrev pub textRows : ℕ → ℕ → List Float → List ℕ → Answer
-textRows n e h t =
-    scan (lineRows n e t) (n + 2)
-    then row (leb (length t) (saveLength n)) 20 (n + 2)
-    then row12Held (clockOf n t)
-    then scan (λ i. row (inBounds (loadedNode h t i)) 10 i) n
+use Rattle.saves.specs.Load.{clockOf, textRows, loadAnswer, loadedState, loadOut, loadOf}
 
 module _ (m : Mesh) (p : Parameters) (t : List ℕ) (state : List Float) (k : Clock) where
   refusal : (a : Answer) → a ≡ loadAnswer m p t state → (a .number ≡ 0 → ⊥) → loadOut (record { answer = a; clock = k }) state ≡ loadOf m p t state k
