@@ -41,7 +41,7 @@ pub struct Sides {
 }
 
 // The gradients and means of one triangle.
-pub struct Means {
+pub(crate) struct Means {
     pub hb: f64,
     pub ub: f64,
     pub vb: f64,

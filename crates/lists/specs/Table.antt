@@ -2,11 +2,17 @@
 use Prim.Native.Nat.{ℕ, zero, suc}
 use mathlib.Core.List.{List, [], _∷_, _++_}
 use lib.ListN.{length, take, drop}
+use lib.Ieee.{Float}
+use Rattle.lists.specs.Scan.{plus0}
 
 -- f 0, f 1, .. , n of them
 unfoldable pub table : {A : Type 0} → ℕ → (ℕ → A) → List A
 table zero f = []
 table (suc n) f = f zero ∷ table n (λ k. f (suc k))
+
+-- n times +0
+abbrev pub zeros : ℕ → List Float
+zeros n = table n (λ _. plus0)
 
 -- l with its first n places written anew: what a loop that writes the places 0, 1, .. in turn has made of l after n of them
 unfoldable pub upTo : {A : Type 0} → ℕ → (ℕ → A) → List A → List A

@@ -1,8 +1,7 @@
 // Slices of any length: how many runs one has, and how one is cleared and copied.
 ghost use mathlib.Core.Path.{_≡_};
 ghost use lib.ListN.{length};
-ghost use Rattle.lists.specs.Scan.{plus0};
-ghost use Rattle.lists.specs.Table.{table, copied};
+ghost use Rattle.lists.specs.Table.{table, zeros, copied};
 ghost use Rattle.lists.specs.Runs.{isRuns};
 
 // Whether a slice of this length is k runs of n. Nothing is multiplied, so nothing overflows.
@@ -17,7 +16,7 @@ pub fn is_runs(long: usize, k: usize, n: usize) -> bool
 
 // Every place +0.
 pub fn clear(s: &mut [f64])
-    ensures { λ _. ⌜ now (s .exit) ≡ table (length (now (s .entry))) (λ _. plus0) ⌝ }
+    ensures { λ _. ⌜ now (s .exit) ≡ zeros (length (now (s .entry))) ⌝ }
 {
     let n = s.len();
     for i in 0..n {

@@ -12,18 +12,18 @@ use Rattle.lists.specs.Runs.{isRuns}
 use Rattle.lists.proofs.ScanLaws.{same-number, other-number, stops, goes}
 use Rattle.equations.specs.declared.Parameters.{Parameters}
 use Rattle.surge.specs.declared.Clock.{Clock}
-use Rattle.surge.specs.Lent.{Mesh, N, E}
+use Rattle.surge.specs.Lent.{Mesh, N, E, after}
 use Rattle.surge.specs.Rows.{rows1to9}
 use Rattle.surge.proofs.AcceptedLaws.{accepted, accepted-rooms}
-use Rattle.saves.specs.Load.{clockOf, textRows, loadAnswer, loadedState, loadOut, loadOf}
+use Rattle.saves.specs.Load.{clockOf, textRows, loadAnswer, loadedState, loadOf}
 
 module _ (m : Mesh) (p : Parameters) (t : List ℕ) (state : List Float) (k : Clock) where
-  refusal : (a : Answer) → a ≡ loadAnswer m p t state → (a .number ≡ 0 → ⊥) → loadOut (record { answer = a; clock = k }) state ≡ loadOf m p t state k
+  refusal : (a : Answer) → a ≡ loadAnswer m p t state → (a .number ≡ 0 → ⊥) → after (record { answer = a; clock = k }) state ≡ loadOf m p t state k
   unfolding loadOf
-  refusal a e h = rw (ne-eqb _ _ (other-number e h)) (ap (λ (b : Answer). loadOut (record { answer = b; clock = k }) state) e)
+  refusal a e h = rw (ne-eqb _ _ (other-number e h)) (ap (λ (b : Answer). after (record { answer = b; clock = k }) state) e)
 
   pub stopped : (a : Answer) → a ≡ rows1to9 (isRuns (length state) 4 (N m)) false m p → (a .number ≡ 0 → ⊥)
-      → loadOut (record { answer = a; clock = k }) state ≡ loadOf m p t state k
+      → after (record { answer = a; clock = k }) state ≡ loadOf m p t state k
   unfolding loadAnswer
   stopped a e h = refusal a (stops _ e h) h
 
@@ -42,11 +42,11 @@ module _ (m : Mesh) (p : Parameters) (t : List ℕ) (state : List Float) (k : Cl
       unfolding loadAnswer
       its = goes _ ok (e ∙ ap (λ (n : ℕ). textRows n (E m) (m .h) t) depths)
 
-      pub stopped-after : (a .number ≡ 0 → ⊥) → loadOut (record { answer = a; clock = k }) state ≡ loadOf m p t state k
+      pub stopped-after : (a .number ≡ 0 → ⊥) → after (record { answer = a; clock = k }) state ≡ loadOf m p t state k
       stopped-after h = refusal a its h
 
       pub loaded : a .number ≡ 0 → {c : Clock} {new : List Float} → c ≡ clockOf (length (m .h)) t → new ≡ loadedState (m .h) t
-          → loadOut (record { answer = a; clock = c }) new ≡ loadOf m p t state k
+          → after (record { answer = a; clock = c }) new ≡ loadOf m p t state k
       unfolding loadOf
       loaded h ec en =
-          rw (eq-eqb _ _ (same-number its h)) (λ i. loadOut (record { answer = its i; clock = (ec ∙ ap (λ (n : ℕ). clockOf n t) depths) i }) (en i))
+          rw (eq-eqb _ _ (same-number its h)) (λ i. after (record { answer = its i; clock = (ec ∙ ap (λ (n : ℕ). clockOf n t) depths) i }) (en i))

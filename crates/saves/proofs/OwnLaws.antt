@@ -20,14 +20,14 @@ use Rattle.lists.proofs.RunLaws.{room-of-runs}
 use Rattle.equations.specs.declared.Parameters.{Parameters}
 use Rattle.equations.specs.declared.Node.{Node}
 use Rattle.surge.specs.declared.Clock.{Clock}
-use Rattle.surge.specs.Lent.{Mesh, N, E}
+use Rattle.surge.specs.Lent.{Mesh, N, E, after}
 use Rattle.surge.specs.Rows.{rows1to9}
 use Rattle.surge.specs.State.{inRun, nodeOf, inBounds, row10, rows1to10, row12Held}
 use Rattle.surge.specs.Accepted.{Sized}
 use Rattle.surge.proofs.AcceptedLaws.{accepted as all-accepted}
 use Rattle.saves.specs.Lines.{saveLength}
 use Rattle.saves.specs.Save.{saveText, saveAnswer, saveOf}
-use Rattle.saves.specs.Load.{lineRows, clockOf, loadedNode, loadAnswer, loadedState, loadOut, loadOf}
+use Rattle.saves.specs.Load.{lineRows, clockOf, loadedNode, loadAnswer, loadedState, loadOf}
 use Rattle.saves.proofs.LineLaws.{lines-long, save-long}
 use Rattle.saves.proofs.BackLaws.{HeldClock, HeldState, lines-fine, clock-back, node-back}
 
@@ -96,7 +96,7 @@ module _ (m : Mesh) (p : Parameters) (state : List Float) (k : Clock) (s : HeldS
     load-fine = rw append-nil at (sym fine)
 
     -- and gives the run that was saved: its clock and its state
-    pub load-own : (clock : Clock) → loadOf m p (saveText (N m) (E m) state k) old clock ≡ loadOut (record { answer = accepted; clock = k }) state
+    pub load-own : (clock : Clock) → loadOf m p (saveText (N m) (E m) state k) old clock ≡ after (record { answer = accepted; clock = k }) state
     unfolding loadOf
     load-own clock =
         let its-clock : clockOf (N m) (saveText (N m) (E m) state k) ≡ k = rw append-nil at (clock-back (E m) state k [] (N m) c) in
@@ -119,6 +119,6 @@ module _ (m : Mesh) (p : Parameters) (state : List Float) (k : Clock) (s : HeldS
 
     -- the bytes that an accepted save wrote, as many as its place says, are loaded to the run that was saved
     pub saved-loaded : (clock : Clock)
-        → loadOf m p (take (saveOf m p state k t .answer .place) (saveOf m p state k t .text)) old clock ≡ loadOut (record { answer = accepted; clock = k }) state
+        → loadOf m p (take (saveOf m p state k t .answer .place) (saveOf m p state k t .text)) old clock ≡ after (record { answer = accepted; clock = k }) state
     unfolding saveAnswer
     saved-loaded clock = rw wrote (load-own (then-first _ _ answered) (then-first _ _ (then-rest _ _ answered)) clock)

@@ -8,7 +8,7 @@ use lib.ListN.{length, drop}
 use lib.Ieee.{Float}
 use Rattle.lists.specs.declared.rows.Answer.{Answer}
 use Rattle.lists.specs.Runs.{isRuns}
-use Rattle.lists.specs.Scan.{refused, _then_}
+use Rattle.lists.specs.Scan.{_then_}
 use Rattle.lists.proofs.ScanLaws.{row-passed, then-first, then-rest, same-number, other-number, stops, goes, both-left}
 use Rattle.equations.specs.declared.Parameters.{Parameters}
 use Rattle.surge.specs.declared.Clock.{Clock}
@@ -17,7 +17,7 @@ use Rattle.surge.specs.Rows.{rows1to9}
 use Rattle.surge.specs.State.{rows1to10, row12Held}
 use Rattle.surge.proofs.AcceptedLaws.{accepted, accepted-rooms}
 use Rattle.saves.specs.Lines.{saveLength}
-use Rattle.saves.specs.Save.{saveText, row24, saveAnswer, saveOut, saveOf}
+use Rattle.saves.specs.Save.{saveText, row24, saveAnswer, saveOut, wrote, saveOf}
 
 -- ---- what is known past rows 1 to 10
 module _ (m : Mesh) (p : Parameters) (state : List Float) (ok : rows1to10 true m p state .number ≡ 0) where
@@ -54,7 +54,7 @@ module _ (m : Mesh) (p : Parameters) (state : List Float) (k : Clock) (t : List 
       unfolding row24
       roomy = leb-true _ _ (row-passed _ 23 _ (then-rest _ _ (same-number e h)))
 
-      pub saved : {b : Answer} {new : List ℕ} → b ≡ refused 0 (saveLength (N m)) → new ≡ saveText (N m) (E m) state k ++ drop (saveLength (N m)) t
+      pub saved : {b : Answer} {new : List ℕ} → b ≡ wrote (saveLength (N m)) → new ≡ saveText (N m) (E m) state k ++ drop (saveLength (N m)) t
           → saveOut b new ≡ saveOf m p state k t
       unfolding saveOf
       saved eb en = rw (eq-eqb _ _ (same-number its h)) (λ i. saveOut (eb i) (en i))

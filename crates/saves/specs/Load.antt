@@ -14,10 +14,9 @@ use Rattle.equations.specs.declared.Parameters.{Parameters}
 use Rattle.equations.specs.declared.Node.{Node}
 use Rattle.frames.specs.Reading.{value, fault}
 use Rattle.surge.specs.declared.Clock.{Clock}
-use Rattle.surge.specs.Lent.{Mesh, N, E}
+use Rattle.surge.specs.Lent.{Mesh, N, E, After, after}
 use Rattle.surge.specs.Rows.{rows1to9}
 use Rattle.surge.specs.State.{inBounds, row12Held}
-use Rattle.saves.specs.declared.Loaded.{Loaded}
 use Rattle.saves.specs.Lines.{headLayout, nodeLayout, endLayout, byteOf, dueKind, due, startOf, saveLength}
 
 -- line j of a text, as much of it as there is: "a missing line being of wrong length"
@@ -72,15 +71,8 @@ loadedState h t =
     let c = loadedNode h t in
     room (table n (λ i. c i .earlier) ∷ table n (λ i. c i .z) ∷ table n (λ i. c i .u) ∷ table n (λ i. c i .v) ∷ [])
 
-pub record LoadOut : Type 0 where
-  pub loaded : Loaded
-  pub state : List Float
-
-abbrev pub loadOut : Loaded → List Float → LoadOut
-loadOut l s = record { loaded = l; state = s }
-
 -- a refusal leaves state and clock as found
-unfoldable pub loadOf : Mesh → Parameters → List ℕ → List Float → Clock → LoadOut
+unfoldable pub loadOf : Mesh → Parameters → List ℕ → List Float → Clock → After
 loadOf m p t state k =
     let a = loadAnswer m p t state in
-    cond (eqb (a .number) 0) (loadOut (record { answer = a; clock = clockOf (N m) t }) (loadedState (m .h) t)) (loadOut (record { answer = a; clock = k }) state)
+    cond (eqb (a .number) 0) (after (record { answer = a; clock = clockOf (N m) t }) (loadedState (m .h) t)) (after (record { answer = a; clock = k }) state)

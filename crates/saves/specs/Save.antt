@@ -6,7 +6,7 @@ use lib.Dec.{eqb, leb, ltb}
 use lib.ListN.{length, drop}
 use lib.Ieee.{Float}
 use Rattle.lists.specs.declared.rows.Answer.{Answer}
-use Rattle.lists.specs.Scan.{refused, row, _then_}
+use Rattle.lists.specs.Scan.{plus0, row, _then_}
 use Rattle.equations.specs.declared.Parameters.{Parameters}
 use Rattle.frames.specs.Frames.{Frame, text}
 use Rattle.surge.specs.declared.Clock.{Clock}
@@ -44,8 +44,12 @@ pub record SaveOut : Type 0 where
 abbrev pub saveOut : Answer → List ℕ → SaveOut
 saveOut a t = record { answer = a; text = t }
 
--- "a save's place is the bytes it wrote"; "Text room past a save keeps its bytes"; a refusal leaves the text as found
+-- "a save's place is the bytes it wrote"
+abbrev pub wrote : ℕ → Answer
+wrote bytes = record { number = 0; place = bytes; value = plus0 }
+
+-- "Text room past a save keeps its bytes"; a refusal leaves the text as found
 unfoldable pub saveOf : Mesh → Parameters → List Float → Clock → List ℕ → SaveOut
 saveOf m p state k t =
     let a = saveAnswer m p state k t in
-    cond (eqb (a .number) 0) (saveOut (refused 0 (saveLength (N m))) (saveText (N m) (E m) state k ++ drop (saveLength (N m)) t)) (saveOut a t)
+    cond (eqb (a .number) 0) (saveOut (wrote (saveLength (N m))) (saveText (N m) (E m) state k ++ drop (saveLength (N m)) t)) (saveOut a t)

@@ -10,25 +10,20 @@ use lists::rows::Answer;
 use lists::slices;
 use surge::Clock;
 use surge::Forcing;
+use surge::Reply;
 use surge::mesh;
 use surge::stepping;
 use surge::stepping::state;
 ghost use mathlib.Core.Path.{_≡_};
-ghost use Rattle.surge.specs.Lent.{mesh};
+ghost use Rattle.surge.specs.Lent.{mesh, after};
 ghost use Rattle.saves.specs.Save.{saveOut, saveOf};
 ghost use Rattle.saves.specs.Forcings.{takenOf};
-ghost use Rattle.saves.specs.Load.{float, loadOut, loadOf};
+ghost use Rattle.saves.specs.Load.{float, loadOf};
 
 // What reading a forcing line hands back.
 pub struct Taken {
     pub answer: Answer,
     pub forcing: Forcing,
-}
-
-// What a load hands back.
-pub struct Loaded {
-    pub answer: Answer,
-    pub clock: Clock,
 }
 
 // The float of the 8 bytes that start at a frame byte of a line.
@@ -87,7 +82,11 @@ pub fn save(
         return rest;
     }
     writing::write(text, n, tri.len() / 3, state, clock);
-    rows::refuse(0, room)
+    Answer {
+        number: 0,
+        place: room,
+        value: 0.0,
+    }
 }
 
 // Loads a run: rows 1 to 9, the text's rows; then state and clock. A refusal leaves both as found.
@@ -101,23 +100,23 @@ pub fn load(
     kind: &[u8],
     p: Parameters,
     clock: Clock,
-) -> Loaded
-    ensures { λ r. ⌜ loadOut r (now (state .exit)) ≡ loadOf (mesh (now (x .entry)) (now (y .entry)) (now (tri .entry)) (now (h .entry)) (now (kind .entry))) p (now (text .entry)) (now (state .entry)) clock ⌝ }
+) -> Reply
+    ensures { λ r. ⌜ after r (now (state .exit)) ≡ loadOf (mesh (now (x .entry)) (now (y .entry)) (now (tri .entry)) (now (h .entry)) (now (kind .entry))) p (now (text .entry)) (now (state .entry)) clock ⌝ }
 {
     let rooms = slices::is_runs(state.len(), 4, x.len());
     let lent = mesh::check(rooms, false, x, y, tri, h, kind, p);
     if lent.number != 0 {
-        return Loaded {
+        return Reply {
             answer: lent,
             clock,
         };
     }
     let answer = loading::text_rows(tri.len() / 3, h, text);
     if answer.number != 0 {
-        return Loaded { answer, clock };
+        return Reply { answer, clock };
     }
     loading::fill(state, h, text);
-    Loaded {
+    Reply {
         answer,
         clock: loading::clock_of(h.len(), text),
     }

@@ -3,10 +3,9 @@ use mathlib.Core.Path.{_≡_, refl, sym, ap, _∙_}
 use contract.Lifetimes.{Lfts}
 use borrow.Fn.Kinds.{Dens}
 use Rattle.frames.specs.Building.{Put, putOut}
-use Rattle.surge.specs.Open.{OpenOut, openOut}
+use Rattle.surge.specs.Lent.{After, after}
 use Rattle.surge.specs.Step.{StepOut, stepOut}
 use Rattle.saves.specs.Save.{SaveOut, saveOut}
-use Rattle.saves.specs.Load.{LoadOut, loadOut}
 use Rattle.statements.specs.Determined.{Determined}
 use Rattle.lists.proofs.rows.accept.Kinds as accept-kinds
 use Rattle.lists.proofs.rows.accept.Reads as accept-reads
@@ -180,8 +179,8 @@ put-determined κs a x y v w p q =
 -- ---- calls
 pub open-determined : Determined open-kinds.ps open-kinds.r open-reads.Post
 open-determined κs a x y v w p q =
-    let e : openOut x (v .0) ≡ openOut y (w .0) = same p q in
-    (ap (λ (o : OpenOut). o .opened) e, λ i. (e i .state, (tt, (tt, (tt, (tt, (tt, (tt, tt))))))))
+    let e : after x (v .0) ≡ after y (w .0) = same p q in
+    (ap (λ (o : After). o .reply) e, λ i. (e i .state, (tt, (tt, (tt, (tt, (tt, (tt, tt))))))))
 
 pub open-asks-nothing : (κs : Lfts 6) (a : Dens κs open-kinds.ps) → open-reads.Asked κs a
 open-asks-nothing κs a = tt
@@ -189,7 +188,7 @@ open-asks-nothing κs a = tt
 pub step-determined : Determined step-kinds.ps step-kinds.r step-reads.Post
 step-determined κs a x y v w p q =
     let e : stepOut x (v .0) (v .1 .0) (v .1 .1 .0) ≡ stepOut y (w .0) (w .1 .0) (w .1 .1 .0) = same p q in (
-      ap (λ (o : StepOut). o .stepped) e,
+      ap (λ (o : StepOut). o .reply) e,
       λ i. (e i .rooms .next, (e i .rooms .work, (e i .rooms .sums, (tt, (tt, (tt, (tt, (tt, (tt, (tt, (tt, (tt, tt)))))))))))),
     )
 
@@ -212,8 +211,8 @@ read-forcing-asks-nothing κs a = tt
 
 pub load-determined : Determined load-kinds.ps load-kinds.r load-reads.Post
 load-determined κs a x y v w p q =
-    let e : loadOut x (v .0) ≡ loadOut y (w .0) = same p q in
-    (ap (λ (o : LoadOut). o .loaded) e, λ i. (e i .state, (tt, (tt, (tt, (tt, (tt, (tt, (tt, (tt, tt))))))))))
+    let e : after x (v .0) ≡ after y (w .0) = same p q in
+    (ap (λ (o : After). o .reply) e, λ i. (e i .state, (tt, (tt, (tt, (tt, (tt, (tt, (tt, (tt, tt))))))))))
 
 pub load-asks-nothing : (κs : Lfts 7) (a : Dens κs load-kinds.ps) → load-reads.Asked κs a
 load-asks-nothing κs a = tt

@@ -8,29 +8,28 @@ use lib.Dec.{eqb}
 use lib.ListN.{length}
 use lib.Ieee.{Float}
 use Rattle.lists.specs.declared.rows.Answer.{Answer}
-use Rattle.lists.specs.Table.{table}
+use Rattle.lists.specs.Table.{zeros}
 use Rattle.lists.specs.Runs.{isRuns}
-use Rattle.lists.specs.Scan.{plus0}
 use Rattle.lists.proofs.ScanLaws.{same-number}
 use Rattle.equations.specs.declared.Parameters.{Parameters}
 use Rattle.surge.specs.declared.Clock.{Clock}
-use Rattle.surge.specs.Lent.{Mesh, N, coldState, coldClock}
-use Rattle.surge.specs.Open.{openAnswer, openOut, openOf}
+use Rattle.surge.specs.Lent.{Mesh, N, coldState, coldClock, after}
+use Rattle.surge.specs.Open.{openAnswer, openOf}
 use Rattle.surge.proofs.AcceptedLaws.{accepted-rooms}
 
 module _ (m : Mesh) (p : Parameters) (state : List Float) (a : Answer) (k : Clock) (e : a ≡ openAnswer m p state) (q : k ≡ coldClock) where
-  done : (now : List Float) → now ≡ cond (eqb (a .number) 0) (coldState (N m)) state → openOut (record { answer = a; clock = k }) now ≡ openOf m p state
+  done : (now : List Float) → now ≡ cond (eqb (a .number) 0) (coldState (N m)) state → after (record { answer = a; clock = k }) now ≡ openOf m p state
   unfolding openOf
   done now s =
-      (λ i. openOut (record { answer = a; clock = q i }) (s i))
-      ∙ ap (λ (b : Answer). openOut (record { answer = b; clock = coldClock }) (cond (eqb (b .number) 0) (coldState (N m)) state)) e
+      (λ i. after (record { answer = a; clock = q i }) (s i))
+      ∙ ap (λ (b : Answer). after (record { answer = b; clock = coldClock }) (cond (eqb (b .number) 0) (coldState (N m)) state)) e
 
   long : a .number ≡ 0 → length state ≡ 4 * N m
   unfolding openAnswer
   long h = eqb-true _ _ (accepted-rooms (isRuns (length state) 4 (N m)) true m p (same-number e h))
 
-  pub open-accepted : a .number ≡ 0 → (now : List Float) → now ≡ table (length state) (λ _. plus0) → openOut (record { answer = a; clock = k }) now ≡ openOf m p state
-  open-accepted h now s = done now (s ∙ ap (λ (n : ℕ). table n (λ _. plus0)) (long h) ∙ sym (ap (λ (b : Bool). cond b (coldState (N m)) state) (eq-eqb _ _ h)))
+  pub open-accepted : a .number ≡ 0 → (now : List Float) → now ≡ zeros (length state) → after (record { answer = a; clock = k }) now ≡ openOf m p state
+  open-accepted h now s = done now (s ∙ ap zeros (long h) ∙ sym (ap (λ (b : Bool). cond b (coldState (N m)) state) (eq-eqb _ _ h)))
 
-  pub open-refused : (a .number ≡ 0 → ⊥) → (now : List Float) → now ≡ state → openOut (record { answer = a; clock = k }) now ≡ openOf m p state
+  pub open-refused : (a .number ≡ 0 → ⊥) → (now : List Float) → now ≡ state → after (record { answer = a; clock = k }) now ≡ openOf m p state
   open-refused h now s = done now (s ∙ sym (ap (λ (b : Bool). cond b (coldState (N m)) state) (ne-eqb _ _ h)))

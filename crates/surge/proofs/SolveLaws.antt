@@ -7,7 +7,7 @@ use native.Mathlib.Omega.{arith}
 use lib.ListN.{length, getD, drop, length-drop}
 use lib.Seq.{getD-take, getD-drop, length-take-le}
 use lib.Ieee.{Float, nan}
-use Rattle.lists.specs.Table.{table, upTo}
+use Rattle.lists.specs.Table.{table, upTo, zeros}
 use Rattle.lists.specs.Runs.{run, room}
 use Rattle.lists.specs.Scan.{scan}
 use Rattle.lists.proofs.TableLaws.{length-table, getD-table, is-table, table-same, up-all}
@@ -22,7 +22,7 @@ use Rattle.surge.specs.Lent.{corners}
 use Rattle.surge.specs.State.{inRun}
 use Rattle.surge.specs.Equations.{count, triangles, node, floating, sidesAt, R, Sums, riseOf, rise, both, slopeX, slopeY, Px, Py, flowOf, pushOf, flowAt, nextState}
 use Rattle.surge.specs.Step.{speedOf, row13Level, row13Flow}
-use Rattle.surge.specs.Passes.{Rising, rising, RisingFits, riseIn, levelIn, Sloping, sloping, SlopingFits, bothOf, slopeOf, slopeIn, PxIn, PyIn, slopeRoom, Moving, moving, MovingFits, flowIn, speedIn, flowRoom, Solving, SolvingFits, zeros, risenRoom, solvedRoom}
+use Rattle.surge.specs.Passes.{Rising, rising, RisingFits, riseIn, levelIn, Sloping, sloping, SlopingFits, bothOf, slopeOf, slopeIn, PxIn, PyIn, slopeRoom, Moving, moving, MovingFits, flowIn, speedIn, flowRoom, Solving, SolvingFits, risenRoom, solvedRoom}
 use Rattle.surge.proofs.PassLaws.{S-small, corners-below}
 use Rattle.surge.proofs.RoomLaws.{three-length, run-first, run-second, run-third}
 

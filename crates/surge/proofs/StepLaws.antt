@@ -9,9 +9,8 @@ use lib.Dec.{eqb}
 use lib.ListN.{length}
 use lib.Ieee.{Float}
 use Rattle.lists.specs.declared.rows.Answer.{Answer}
-use Rattle.lists.specs.Table.{table}
+use Rattle.lists.specs.Table.{table, zeros}
 use Rattle.lists.specs.Runs.{isRuns}
-use Rattle.lists.specs.Scan.{_then_, scan}
 use Rattle.lists.proofs.ScanLaws.{row-passed, then-first, then-rest, same-number, other-number, both-left, both-right}
 use Rattle.surge.specs.declared.Clock.{Clock}
 use Rattle.surge.specs.Lent.{N}
@@ -19,8 +18,8 @@ use Rattle.surge.specs.Rows.{rows1to9}
 use Rattle.surge.specs.Accepted.{Accepted}
 use Rattle.surge.specs.State.{rows1to10, row11, advanced}
 use Rattle.surge.specs.Equations.{nextState}
-use Rattle.surge.specs.Step.{Given, seaOf, advance, before13, row13, row13Level, row13Flow, Rooms, roomy, cleared, stepOut, refusedBefore, refusedBy13, wentOn, stepsTo, stepOf}
-use Rattle.surge.specs.Passes.{Solving, solving, SolvingFits, zeros, solved}
+use Rattle.surge.specs.Step.{Given, seaOf, advance, before13, row13, Rooms, roomy, cleared, stepOut, refusedBefore, refusedBy13, wentOn, stepsTo, stepOf}
+use Rattle.surge.specs.Passes.{Solving, solving, SolvingFits}
 use Rattle.surge.proofs.AcceptedLaws.{accepted, accepted-rooms}
 
 abbrev pub solvingOf : Given → Solving
@@ -110,29 +109,22 @@ module _ (g : Given) (r : Rooms) where
     pub not-last : g .clock .step ≡ 4294967295 → ⊥
     not-last = eqb-false (g .clock .step) 4294967295 (not-true (eqb (g .clock .step) 4294967295) counts)
 
-    its-13 : solved (solvingOf g) ≡ row13 g
-    unfolding solved row13
-    its-13 = λ i. scan (row13Level (seaOf g) (g .mesh .kind) (g .forcing)) (depths i) then scan (row13Flow (seaOf g) (g .mesh .kind) (g .forcing)) (depths i)
-
     -- ---- refused by 13, and gone on: what the equations leave is zero but for the next state
-    module _ (a : Answer) (e : a ≡ solved (solvingOf g)) (next work : List Float) (sums : List ℕ)
+    module _ (a : Answer) (e : a ≡ row13 (seaOf g) (g .mesh .kind) (g .forcing)) (next work : List Float) (sums : List ℕ)
         (en : next ≡ cond (eqb (a .number) 0) (nextState (seaOf g) (g .mesh .kind) (g .forcing)) (r .next))
         (ew : work ≡ zeros (3 * length (g .mesh .h))) (es : sums ≡ table (length (g .mesh .h)) (λ _. 0)) where
-      its : a ≡ row13 g
-      its = e ∙ its-13
-
-      left : (k : Clock) (n : List Float) → next ≡ n → stepOut (record { answer = a; clock = k }) next work sums ≡ record { stepped = record { answer = row13 g; clock = k }; rooms = cleared n (N (g .mesh)) }
-      left k n q = λ i. stepOut (record { answer = its i; clock = k }) (q i)
+      left : (k : Clock) (n : List Float) → next ≡ n → stepOut (record { answer = a; clock = k }) next work sums ≡ record { reply = record { answer = row13 (seaOf g) (g .mesh .kind) (g .forcing); clock = k }; rooms = cleared n (N (g .mesh)) }
+      left k n q = λ i. stepOut (record { answer = e i; clock = k }) (q i)
           ((ew ∙ ap (λ (m : ℕ). zeros (3 * m)) depths) i)
           ((es ∙ ap (λ (m : ℕ). table m (λ _. 0)) depths) i)
 
       pub by-13 : (a .number ≡ 0 → ⊥) → stepOut (record { answer = a; clock = g .clock }) next work sums ≡ stepOf g r
       unfolding stepOf
-      by-13 h = left (g .clock) (r .next) (en ∙ rw (ne-eqb _ _ h)) ∙ sym (to-13 _ _ ok (other-number its h))
+      by-13 h = left (g .clock) (r .next) (en ∙ rw (ne-eqb _ _ h)) ∙ sym (to-13 _ _ ok (other-number e h))
 
       pub went-on : a .number ≡ 0 → (k : Clock) → k ≡ advanced (g .clock) (g .forcing) → stepOut (record { answer = a; clock = k }) next work sums ≡ stepOf g r
       unfolding stepOf advance
       went-on h k ek =
           ap (λ (c : Clock). stepOut (record { answer = a; clock = c }) next work sums) ek
           ∙ left (advanced (g .clock) (g .forcing)) (nextState (seaOf g) (g .mesh .kind) (g .forcing)) (en ∙ rw (eq-eqb _ _ h))
-          ∙ sym (to-next _ _ ok (same-number its h))
+          ∙ sym (to-next _ _ ok (same-number e h))

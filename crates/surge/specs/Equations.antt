@@ -97,6 +97,7 @@ module _ (s : Sea) where
   abbrev pub R : ℕ → Float
   R = gathered floating (corners (s .tri)) sharesAt triangles
 
+  -- S of a node, in whole numbers
   abbrev pub Sums : ℕ → ℕ
   Sums = S (s .x) (s .y) (s .tri)
 

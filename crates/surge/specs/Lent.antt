@@ -4,10 +4,11 @@ use mathlib.Core.List.{List}
 use lib.IntN.{ℤ}
 use lib.ListN.{length, getD}
 use lib.Ieee.{Float}
-use Rattle.lists.specs.Table.{table}
+use Rattle.lists.specs.Table.{zeros}
 use Rattle.lists.specs.Scan.{plus0}
 use Rattle.lists.specs.Gather.{Three}
 use Rattle.surge.specs.declared.Clock.{Clock}
+use Rattle.surge.specs.declared.Reply.{Reply}
 
 -- "Per node: x and y in whole metres (32-bit signed), depth h, kind 0 (free), 1 (open), 2 (held land)." tri: three node numbers for each triangle
 pub record Mesh : Type 0 where
@@ -36,7 +37,15 @@ corners tri t = record { first = corner tri t 0; second = corner tri t 1; third 
 
 -- "A cold start is all +0, step 0." The state is "4N numbers in four runs of N"
 abbrev pub coldState : ℕ → List Float
-coldState n = table (4 * n) (λ _. plus0)
+coldState n = zeros (4 * n)
 
 abbrev pub coldClock : Clock
 coldClock = record { step = 0; wx = plus0; wy = plus0 }
+
+-- what a call leaves: the answer and the clock that it hands back, and the state
+pub record After : Type 0 where
+  pub reply : Reply
+  pub state : List Float
+
+abbrev pub after : Reply → List Float → After
+after r s = record { reply = r; state = s }

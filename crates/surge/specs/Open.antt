@@ -7,23 +7,14 @@ use lib.Ieee.{Float}
 use Rattle.lists.specs.declared.rows.Answer.{Answer}
 use Rattle.lists.specs.Runs.{isRuns}
 use Rattle.equations.specs.declared.Parameters.{Parameters}
-use Rattle.surge.specs.declared.Opened.{Opened}
-use Rattle.surge.specs.Lent.{Mesh, N, coldState, coldClock}
+use Rattle.surge.specs.Lent.{Mesh, N, coldState, coldClock, After, after}
 use Rattle.surge.specs.Rows.{rows1to9}
 
 -- the answer: row 1 covers the state's 4N, and row 6 is tested
 unfoldable pub openAnswer : Mesh → Parameters → List Float → Answer
 openAnswer m p state = rows1to9 (isRuns (length state) 4 (N m)) true m p
 
--- what a call hands back, and the state after it
-pub record OpenOut : Type 0 where
-  pub opened : Opened
-  pub state : List Float
-
-abbrev pub openOut : Opened → List Float → OpenOut
-openOut o s = record { opened = o; state = s }
-
-unfoldable pub openOf : Mesh → Parameters → List Float → OpenOut
+unfoldable pub openOf : Mesh → Parameters → List Float → After
 openOf m p state =
     let a = openAnswer m p state in
-    openOut (record { answer = a; clock = coldClock }) (cond (eqb (a .number) 0) (coldState (N m)) state)
+    after (record { answer = a; clock = coldClock }) (cond (eqb (a .number) 0) (coldState (N m)) state)

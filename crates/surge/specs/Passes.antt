@@ -6,9 +6,8 @@ use lib.IntN.{ℤ}
 use lib.ListN.{length, getD}
 use lib.Ieee.{Float, nan}
 use Rattle.lists.specs.declared.rows.Answer.{Answer}
-use Rattle.lists.specs.Table.{table, upTo}
+use Rattle.lists.specs.Table.{table, zeros, upTo}
 use Rattle.lists.specs.Runs.{run, room}
-use Rattle.lists.specs.Scan.{_then_, scan, plus0}
 use Rattle.lists.specs.Gather.{Three, alike, gathered}
 use Rattle.equations.specs.declared.Parameters.{Parameters}
 use Rattle.equations.specs.declared.Wind.{Wind}
@@ -23,7 +22,7 @@ use Rattle.surge.specs.Lent.{corners}
 use Rattle.surge.specs.Geometry.{sides, floats}
 use Rattle.surge.specs.Accepted.{Sound}
 use Rattle.surge.specs.State.{inRun, nodeOf}
-use Rattle.surge.specs.Step.{speedOf, row13Level, row13Flow}
+use Rattle.surge.specs.Step.{speedOf}
 use Rattle.surge.specs.Equations.{Sea, count, triangles, floating, riseOf, flowOf, pushOf, rise, U′, V′}
 
 -- the lengths and the triangles of a sea that rows 1 to 10 accept
@@ -163,9 +162,6 @@ pub record SolvingFits (v : Solving) : Type 0 where
   pub ready : Ready (v .sea)
   pub kind : length (v .kind) ≡ count (v .sea)
 
-abbrev pub zeros : ℕ → List Float
-zeros n = table n (λ _. plus0)
-
 -- the work room once every z' stands, and once U' and V' do
 abbrev pub risenRoom : Solving → List Float
 risenRoom v = room (table (count (v .sea)) (rise (v .sea) (v .kind) (v .f)) ∷ zeros (count (v .sea)) ∷ zeros (count (v .sea)) ∷ [])
@@ -177,9 +173,3 @@ solvedRoom v =
     ∷ table (count (v .sea)) (U′ (v .sea) (v .kind) (v .f))
     ∷ table (count (v .sea)) (V′ (v .sea) (v .kind) (v .f))
     ∷ [])
-
--- row 13
-unfoldable pub solved : Solving → Answer
-solved v =
-    scan (row13Level (v .sea) (v .kind) (v .f)) (count (v .sea))
-    then scan (row13Flow (v .sea) (v .kind) (v .f)) (count (v .sea))

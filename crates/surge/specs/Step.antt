@@ -6,18 +6,18 @@ use lib.Dec.{eqb}
 use lib.ListN.{length}
 use lib.Ieee.{Float}
 use Rattle.lists.specs.declared.rows.Answer.{Answer}
-use Rattle.lists.specs.Table.{table}
+use Rattle.lists.specs.Table.{table, zeros}
 use Rattle.lists.specs.Runs.{isRuns}
-use Rattle.lists.specs.Scan.{_then_, scan, plus0}
+use Rattle.lists.specs.Scan.{_then_, scan}
 use Rattle.equations.specs.declared.Parameters.{Parameters}
 use Rattle.equations.specs.declared.Flow.{Flow}
 use Rattle.equations.specs.Outcomes.{level, east, north, answerOf}
 use Rattle.surge.specs.declared.Clock.{Clock}
 use Rattle.surge.specs.declared.Forcing.{Forcing}
-use Rattle.surge.specs.declared.Stepped.{Stepped}
+use Rattle.surge.specs.declared.Reply.{Reply}
 use Rattle.surge.specs.Lent.{Mesh, N}
 use Rattle.surge.specs.State.{rows1to10, row11, row12, windOf, advanced}
-use Rattle.surge.specs.Equations.{Sea, sea, node, rise, flowAt, nextState}
+use Rattle.surge.specs.Equations.{Sea, sea, count, node, rise, flowAt, nextState}
 
 -- what a step is given: a mesh and parameters, the run's state and clock, and a forcing
 pub record Given : Type 0 where
@@ -45,6 +45,9 @@ speedOf v i = answerOf (east (v .u)) i then answerOf (north (v .v)) i
 unfoldable pub row13Flow : Sea → List ℕ → Forcing → ℕ → Answer
 row13Flow s kind f i = speedOf (flowAt s kind f i) i
 
+unfoldable pub row13 : Sea → List ℕ → Forcing → Answer
+row13 s kind f = scan (row13Level s kind f) (count s) then scan (row13Flow s kind f) (count s)
+
 -- ---- the equations alone, with no refusal: the state and the clock that they give
 pub record Held : Type 0 where
   pub state : List Float
@@ -57,12 +60,6 @@ advance g = record { state = nextState (seaOf g) (g .mesh .kind) (g .forcing); c
 -- "A step goes on with 10, 11, 12": what is tested before anything is worked out
 unfoldable pub before13 : Bool → Given → Answer
 before13 rooms g = rows1to10 rooms (g .mesh) (g .p) (g .state) then row11 (g .clock) then row12 (g .clock) (g .forcing)
-
--- "then 13"
-unfoldable pub row13 : Given → Answer
-row13 g =
-    scan (row13Level (seaOf g) (g .mesh .kind) (g .forcing)) (N (g .mesh))
-    then scan (row13Flow (seaOf g) (g .mesh .kind) (g .forcing)) (N (g .mesh))
 
 -- ---- what a step leaves
 -- "The next state goes to a second lent slice of 4N; work room is 3N binary64 and N 64-bit unsigned."
@@ -79,24 +76,24 @@ roomy r n = isRuns (length (r .next)) 4 n && isRuns (length (r .work)) 3 n && is
 
 -- "all zero after an accepted step or a 13"
 abbrev pub cleared : List Float → ℕ → Rooms
-cleared next n = record { next = next; work = table (3 * n) (λ _. plus0); sums = table n (λ _. 0) }
+cleared next n = record { next = next; work = zeros (3 * n); sums = table n (λ _. 0) }
 
 pub record StepOut : Type 0 where
-  pub stepped : Stepped
+  pub reply : Reply
   pub rooms : Rooms
 
-abbrev pub stepOut : Stepped → List Float → List Float → List ℕ → StepOut
-stepOut s next work sums = record { stepped = s; rooms = lentRooms next work sums }
+abbrev pub stepOut : Reply → List Float → List Float → List ℕ → StepOut
+stepOut s next work sums = record { reply = s; rooms = lentRooms next work sums }
 
 -- "A refusal leaves state, next state, text and clock as found. Work room is untouched by every refusal but 13"
 abbrev pub refusedBefore : Given → Rooms → Answer → StepOut
-refusedBefore g r a = record { stepped = record { answer = a; clock = g .clock }; rooms = r }
+refusedBefore g r a = record { reply = record { answer = a; clock = g .clock }; rooms = r }
 
 abbrev pub refusedBy13 : Given → Rooms → Answer → StepOut
-refusedBy13 g r a = record { stepped = record { answer = a; clock = g .clock }; rooms = cleared (r .next) (N (g .mesh)) }
+refusedBy13 g r a = record { reply = record { answer = a; clock = g .clock }; rooms = cleared (r .next) (N (g .mesh)) }
 
 abbrev pub wentOn : Given → Answer → StepOut
-wentOn g a = record { stepped = record { answer = a; clock = advance g .clock }; rooms = cleared (advance g .state) (N (g .mesh)) }
+wentOn g a = record { reply = record { answer = a; clock = advance g .clock }; rooms = cleared (advance g .state) (N (g .mesh)) }
 
 -- by the answer of rows 1 to 12, and then by that of row 13
 unfoldable pub stepsTo : Given → Rooms → Answer → Answer → StepOut
@@ -104,4 +101,4 @@ stepsTo g r first last =
     cond (eqb (first .number) 0) (cond (eqb (last .number) 0) (wentOn g last) (refusedBy13 g r last)) (refusedBefore g r first)
 
 unfoldable pub stepOf : Given → Rooms → StepOut
-stepOf g r = stepsTo g r (before13 (roomy r (N (g .mesh))) g) (row13 g)
+stepOf g r = stepsTo g r (before13 (roomy r (N (g .mesh))) g) (row13 (seaOf g) (g .mesh .kind) (g .forcing))

@@ -7,11 +7,11 @@ use equations::Wind;
 use lists::rows::Answer;
 use lists::slices;
 ghost use mathlib.Core.Path.{_≡_};
-ghost use Rattle.surge.specs.Lent.{mesh, coldClock};
+ghost use Rattle.surge.specs.Lent.{mesh, coldClock, after};
 ghost use Prim.Native.Nat.{_<_};
 ghost use Rattle.surge.specs.State.{advanced};
 ghost use Rattle.surge.specs.Step.{given, lentRooms, stepOut, stepOf};
-ghost use Rattle.surge.specs.Open.{openOut, openOf};
+ghost use Rattle.surge.specs.Open.{openOf};
 
 // The step number and the present wind.
 pub struct Clock {
@@ -53,8 +53,8 @@ impl Clock {
     }
 }
 
-// What opening a mesh hands back.
-pub struct Opened {
+// What a call on a run hands back.
+pub struct Reply {
     pub answer: Answer,
     pub clock: Clock,
 }
@@ -68,24 +68,18 @@ pub fn open(
     h: &[f64],
     kind: &[u8],
     p: Parameters,
-) -> Opened
-    ensures { λ r. ⌜ openOut r (now (state .exit)) ≡ openOf (mesh (now (x .entry)) (now (y .entry)) (now (tri .entry)) (now (h .entry)) (now (kind .entry))) p (now (state .entry)) ⌝ }
+) -> Reply
+    ensures { λ r. ⌜ after r (now (state .exit)) ≡ openOf (mesh (now (x .entry)) (now (y .entry)) (now (tri .entry)) (now (h .entry)) (now (kind .entry))) p (now (state .entry)) ⌝ }
 {
     let rooms = slices::is_runs(state.len(), 4, x.len());
     let answer = mesh::check(rooms, true, x, y, tri, h, kind, p);
     if answer.number == 0 {
         slices::clear(state);
     }
-    Opened {
+    Reply {
         answer,
         clock: Clock::cold(),
     }
-}
-
-// What a step hands back.
-pub struct Stepped {
-    pub answer: Answer,
-    pub clock: Clock,
 }
 
 // A step: rows 1 to 13, then the next state in `next`. A refusal leaves `next` and the clock as found, and the work room too unless it is 13.
@@ -102,7 +96,7 @@ pub fn step(
     p: Parameters,
     clock: Clock,
     f: Forcing,
-) -> Stepped
+) -> Reply
     ensures { λ r. ⌜ stepOut r (now (next .exit)) (now (work .exit)) (now (sums .exit)) ≡ stepOf (given (mesh (now (x .entry)) (now (y .entry)) (now (tri .entry)) (now (h .entry)) (now (kind .entry))) p (now (state .entry)) clock f) (lentRooms (now (next .entry)) (now (work .entry)) (now (sums .entry))) ⌝ }
 {
     let n = x.len();
@@ -111,7 +105,7 @@ pub fn step(
         & slices::is_runs(sums.len(), 1, n);
     let first = stepping::before_13(rooms, x, y, tri, h, kind, p, state, clock, f);
     if first.number != 0 {
-        return Stepped {
+        return Reply {
             answer: first,
             clock,
         };
@@ -122,12 +116,12 @@ pub fn step(
     };
     let last = stepping::advance(next, work, sums, x, y, tri, h, kind, p, state, held, f);
     if last.number != 0 {
-        return Stepped {
+        return Reply {
             answer: last,
             clock,
         };
     }
-    Stepped {
+    Reply {
         answer: last,
         clock: clock.advanced(f),
     }

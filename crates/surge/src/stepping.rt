@@ -18,13 +18,13 @@ ghost use mathlib.Core.List.{_++_};
 ghost use Prim.Native.Nat.{_*_};
 ghost use lib.Dec.{eqb};
 ghost use lib.ListN.{length};
-ghost use Rattle.lists.specs.Table.{table};
+ghost use Rattle.lists.specs.Table.{table, zeros};
 ghost use Rattle.lists.specs.Runs.{run};
 ghost use Rattle.surge.specs.Lent.{mesh};
 ghost use Rattle.surge.specs.State.{rows1to10};
 ghost use Rattle.surge.specs.Equations.{sea, count, nextState};
-ghost use Rattle.surge.specs.Step.{given, before13};
-ghost use Rattle.surge.specs.Passes.{Solving, solving, SolvingFits, zeros, solvedRoom, solved};
+ghost use Rattle.surge.specs.Step.{given, before13, row13};
+ghost use Rattle.surge.specs.Passes.{Solving, solving, SolvingFits, solvedRoom};
 
 // Rows 1 to 10. `rooms`: the call's slices besides the mesh and the state have their lengths.
 pub fn rows_to_10(
@@ -87,7 +87,7 @@ fn solve(
     requires { λ v. ⌜ solving (sea p w (now x) (now y) (now tri) (now h) (now state)) (now kind) f ≡ v ⌝ }
     requires { λ v. ⌜ SolvingFits v ⌝ }
     requires { λ v. ⌜ (length (now work) ≡ 3 * count (v .sea)) × (length (now sums) ≡ count (v .sea)) ⌝ }
-    ensures { λ v a. ⌜ a ≡ solved v ⌝ }
+    ensures { λ v a. ⌜ a ≡ row13 (v .sea) (v .kind) (v .f) ⌝ }
     ensures { λ v a. ⌜ (a .number ≡ 0 → now (work .exit) ≡ solvedRoom v) ⌝ }
 {
     let level = elevation::levels(work, sums, x, y, tri, h, kind, p, state, w, f);
@@ -127,7 +127,7 @@ pub(crate) fn advance(
     requires { λ v. ⌜ solving (sea p w (now x) (now y) (now tri) (now h) (now state)) (now kind) f ≡ v ⌝ }
     requires { λ v. ⌜ SolvingFits v ⌝ }
     requires { λ v. ⌜ (length (now next) ≡ 4 * count (v .sea)) × (length (now work) ≡ 3 * count (v .sea)) × (length (now sums) ≡ count (v .sea)) ⌝ }
-    ensures { λ v a. ⌜ a ≡ solved v ⌝ }
+    ensures { λ v a. ⌜ a ≡ row13 (v .sea) (v .kind) (v .f) ⌝ }
     ensures { λ v a. ⌜ now (next .exit) ≡ cond (eqb (a .number) 0) (nextState (v .sea) (v .kind) (v .f)) (now (next .entry)) ⌝ }
     ensures { λ v a. ⌜ (now (work .exit) ≡ zeros (3 * count (v .sea))) × (now (sums .exit) ≡ table (count (v .sea)) (λ _. 0)) ⌝ }
 {

@@ -1,6 +1,7 @@
-use mathlib.Core.Path.{_≡_, _∙_}
+use mathlib.Core.Path.{_≡_, refl, _∙_}
 use mathlib.Core.Bool.{true}
 use native.Mathlib.Omega.{arith}
+use lib.Ieee.{ofBits}
 use Rattle.lists.specs.Scan.{_then_}
 use Rattle.lists.proofs.ScanLaws.{same-number}
 use Rattle.surge.specs.Lent.{Mesh, mesh, N}
@@ -60,18 +61,16 @@ write-requires c κs =
     let ok = passed (f .before .before .before) in
     (few _ _ _ ok, state-long _ _ _ ok, roomy _ _ _ _ _ ok _ (rest f) (c .before .if2 .left))
 
-refuse-requires : tie.Need-refuse-requires
-refuse-requires c κs = search needs
-
 same-length : tie.Need-same-length
 same-length c = search needs
 
 returns-3 : tie.Need-returns-3
+unfolding ofBits
 returns-3 c =
-    let w = c .before .before .before in
+    let w = c .before .before in
     let e = w .before .before in
     let f = e .before .before in
-    saved _ _ _ _ _ (passed (f .before .before .before)) _ (rest f) (e .if2 .left) (c .refuse .ensures) (w .write .ensures)
+    saved _ _ _ _ _ (passed (f .before .before .before)) _ (rest f) (e .if2 .left) refl (w .write .ensures)
 
 pub save-spec : {M : Type 1} → statement M
 save-spec =
@@ -86,6 +85,5 @@ save-spec =
     first-requires
     returns-2
     write-requires
-    refuse-requires
     same-length
     returns-3)

@@ -21,15 +21,15 @@ ghost use Prim.Native.Nat.{_*_, _^_, _<_, _≤_};
 ghost use lib.ListN.{length, getD};
 ghost use lib.IntN.{natAbs, pos};
 ghost use lib.Ieee.{nan};
-ghost use Rattle.lists.specs.Table.{table};
-ghost use Rattle.lists.specs.Scan.{scan, plus0};
+ghost use Rattle.lists.specs.Table.{table, zeros};
+ghost use Rattle.lists.specs.Scan.{scan};
 ghost use Rattle.lists.specs.Gather.{Below};
 ghost use Rattle.equations.specs.Elevation.{shares};
 ghost use Rattle.equations.specs.Outcomes.{level};
 ghost use Rattle.surge.specs.Geometry.{nodesOf, D, allNear, floats};
 ghost use Rattle.surge.specs.State.{nodeOf};
 ghost use Rattle.surge.specs.Equations.{Sea, sea, count, R, Sums, rise, riseOf};
-ghost use Rattle.surge.specs.Passes.{Ready, Rising, rising, RisingFits, riseIn, levelIn, Solving, solving, SolvingFits, zeros, risenRoom};
+ghost use Rattle.surge.specs.Passes.{Ready, Rising, rising, RisingFits, riseIn, levelIn, Solving, solving, SolvingFits, risenRoom};
 ghost use Rattle.surge.specs.Step.{row13Level};
 
 // D of a triangle that rows 4 and 5 accept, as a count.
@@ -67,7 +67,7 @@ fn assemble(
     ghost { Sea }
     requires { λ s. ⌜ sea p w (now x) (now y) (now tri) (now h) (now state) ≡ s ⌝ }
     requires { λ s. ⌜ Ready s ⌝ }
-    requires { λ s. ⌜ (now r ≡ table (count s) (λ _. plus0)) × (now sums ≡ table (count s) (λ _. 0)) ⌝ }
+    requires { λ s. ⌜ (now r ≡ zeros (count s)) × (now sums ≡ table (count s) (λ _. 0)) ⌝ }
     ensures { λ s _. ⌜ (now (r .exit) ≡ table (count s) (R s)) × (now (sums .exit) ≡ table (count s) (Sums s)) ⌝ }
 {
     let e = tri.len() / 3;

@@ -4,9 +4,9 @@ use mathlib.Core.Bool.{Bool, cond}
 use mathlib.Core.Logic.{⊎-elim}
 use borrow.Author.Tests.{eq-eqb, ne-eqb}
 use lib.ListN.{length}
-use Rattle.lists.specs.Table.{table}
+use Rattle.lists.specs.Table.{table, zeros}
 use Rattle.surge.specs.Equations.{sea, nextState}
-use Rattle.surge.specs.Passes.{Solving, solving, zeros}
+use Rattle.surge.specs.Passes.{Solving, solving}
 use Rattle.surge.proofs.SolveLaws.{next-state}
 use borrow.Author.Needs.{needs}
 use Rattle.surge.proofs.stepping.advance.Statement.{statement}

@@ -1,5 +1,5 @@
 use Rattle.lists.proofs.ScanLaws.{same-number, stops, goes}
-use Rattle.surge.specs.Passes.{solved}
+use Rattle.surge.specs.Step.{row13}
 use borrow.Author.Needs.{needs}
 use Rattle.surge.proofs.stepping.solve.Statement.{statement}
 use Rattle.surge.proofs.stepping.solve.Tie as tie
@@ -14,7 +14,7 @@ same-length-2 : tie.Need-same-length-2
 same-length-2 c = search needs
 
 returns : tie.Need-returns
-unfolding solved
+unfolding row13
 returns c = let l = c .before .before .before .before .before .before in (stops _ (l .levels .ensures .0) (c .if1 .taken), λ z. absurd (c .if1 .taken z))
 
 velocities-requires : tie.Need-velocities-requires
@@ -30,7 +30,7 @@ same-length-4 : tie.Need-same-length-4
 same-length-4 c = search needs
 
 returns-2 : tie.Need-returns-2
-unfolding solved
+unfolding row13
 returns-2 c =
     let v = c .before .before in
     let e = v .before .before .before in

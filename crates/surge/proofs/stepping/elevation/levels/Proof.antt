@@ -3,12 +3,12 @@ use mathlib.Core.Path.{_≡_, sym, ap, _∙_}
 use mathlib.Core.List.{List, [], _∷_}
 use lib.ListN.{length}
 use lib.Ieee.{Float}
-use Rattle.lists.specs.Table.{table}
+use Rattle.lists.specs.Table.{table, zeros}
 use Rattle.lists.specs.Runs.{room}
 use Rattle.lists.specs.Scan.{plus0}
 use Rattle.lists.proofs.TableLaws.{length-table}
 use Rattle.surge.specs.Equations.{sea, count}
-use Rattle.surge.specs.Passes.{Solving, solving, zeros}
+use Rattle.surge.specs.Passes.{Solving, solving}
 use Rattle.surge.proofs.RoomLaws.{front-zero, front-put}
 use borrow.Author.Needs.{needs}
 use Rattle.surge.proofs.stepping.elevation.levels.Statement.{statement}
