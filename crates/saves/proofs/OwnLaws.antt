@@ -22,7 +22,8 @@ use Rattle.equations.specs.declared.Node.{Node}
 use Rattle.surge.specs.declared.Clock.{Clock}
 use Rattle.surge.specs.Lent.{Mesh, N, E, after}
 use Rattle.surge.specs.Rows.{rows1to9}
-use Rattle.surge.specs.State.{inRun, nodeOf, inBounds, row10, rows1to10, row12Held}
+use Rattle.limits.specs.Limits.{inBounds, row12Held}
+use Rattle.surge.specs.State.{inRun, nodeOf, row10, rows1to10, windOf}
 use Rattle.surge.specs.Accepted.{Sized}
 use Rattle.surge.proofs.AcceptedLaws.{accepted as all-accepted}
 use Rattle.saves.specs.Lines.{saveLength}
@@ -67,7 +68,7 @@ passed q = same-number (sym q) refl
 
 module _ (m : Mesh) (p : Parameters) (state : List Float) (k : Clock) (s : HeldState (N m) state) (c : HeldClock k) (old : List Float) (long : length old ≡ 4 * N m) where
   -- ---- a save's own text is loaded, over any state of the right length
-  module _ (ok : rows1to10 true m p state .number ≡ 0) (held : row12Held k .number ≡ 0) where
+  module _ (ok : rows1to10 true m p state .number ≡ 0) (held : row12Held (windOf k) .number ≡ 0) where
     mesh-fine : rows1to9 true false m p .number ≡ 0
     unfolding rows1to10
     mesh-fine = rw (eq-eqb _ _ (s .long)) at (then-first _ _ ok)

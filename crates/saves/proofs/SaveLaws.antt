@@ -14,7 +14,8 @@ use Rattle.equations.specs.declared.Parameters.{Parameters}
 use Rattle.surge.specs.declared.Clock.{Clock}
 use Rattle.surge.specs.Lent.{Mesh, N, E}
 use Rattle.surge.specs.Rows.{rows1to9}
-use Rattle.surge.specs.State.{rows1to10, row12Held}
+use Rattle.limits.specs.Limits.{row12Held}
+use Rattle.surge.specs.State.{rows1to10, windOf}
 use Rattle.surge.proofs.AcceptedLaws.{accepted, accepted-rooms}
 use Rattle.saves.specs.Lines.{saveLength}
 use Rattle.saves.specs.Save.{saveText, row24, saveAnswer, saveOut, wrote, saveOf}
@@ -41,7 +42,7 @@ module _ (m : Mesh) (p : Parameters) (state : List Float) (k : Clock) (t : List 
   unfolding saveAnswer
   stopped a e h = refusal a (stops _ e h) h
 
-  module _ (ok : rows1to10 true m p state .number ≡ 0) (a : Answer) (e : a ≡ (row12Held k then row24 (N m) t)) where
+  module _ (ok : rows1to10 true m p state .number ≡ 0) (a : Answer) (e : a ≡ (row12Held (windOf k) then row24 (N m) t)) where
     its : a ≡ saveAnswer m p state k t
     unfolding saveAnswer
     its = goes _ ok e

@@ -16,7 +16,8 @@ use Rattle.frames.specs.Reading.{value, fault}
 use Rattle.surge.specs.declared.Clock.{Clock}
 use Rattle.surge.specs.Lent.{Mesh, N, E, After, after}
 use Rattle.surge.specs.Rows.{rows1to9}
-use Rattle.surge.specs.State.{inBounds, row12Held}
+use Rattle.limits.specs.Limits.{inBounds, row12Held}
+use Rattle.surge.specs.State.{windOf}
 use Rattle.saves.specs.Lines.{headLayout, nodeLayout, endLayout, byteOf, dueKind, due, startOf, saveLength}
 
 -- line j of a text, as much of it as there is: "a missing line being of wrong length"
@@ -58,7 +59,7 @@ abbrev pub textRows : ℕ → ℕ → List Float → List ℕ → Answer
 textRows n e h t =
     scan (lineRows n e t) (n + 2)
     then row (leb (length t) (saveLength n)) 20 (n + 2)
-    then row12Held (clockOf n t)
+    then row12Held (windOf (clockOf n t))
     then scan (row10Read h t) n
 
 unfoldable pub loadAnswer : Mesh → Parameters → List ℕ → List Float → Answer

@@ -11,7 +11,8 @@ use Rattle.equations.specs.declared.Parameters.{Parameters}
 use Rattle.frames.specs.Frames.{Frame, text}
 use Rattle.surge.specs.declared.Clock.{Clock}
 use Rattle.surge.specs.Lent.{Mesh, N, E}
-use Rattle.surge.specs.State.{rows1to10, row12Held}
+use Rattle.limits.specs.Limits.{row12Held}
+use Rattle.surge.specs.State.{rows1to10, windOf}
 use Rattle.saves.specs.Lines.{head, stateValues, nodeLine, end, saveLength}
 
 -- a run as a save has it: N, E, state and clock
@@ -35,7 +36,7 @@ unfoldable pub row24 : ℕ → List ℕ → Answer
 row24 n t = row (leb (saveLength n) (length t)) 24 (saveLength n)
 
 unfoldable pub saveAnswer : Mesh → Parameters → List Float → Clock → List ℕ → Answer
-saveAnswer m p state k t = rows1to10 true m p state then row12Held k then row24 (N m) t
+saveAnswer m p state k t = rows1to10 true m p state then row12Held (windOf k) then row24 (N m) t
 
 pub record SaveOut : Type 0 where
   pub answer : Answer

@@ -13,7 +13,6 @@ use surge::Forcing;
 use surge::Reply;
 use surge::mesh;
 use surge::stepping;
-use surge::stepping::state;
 ghost use mathlib.Core.Path.{_≡_};
 ghost use Rattle.surge.specs.Lent.{mesh, after};
 ghost use Rattle.saves.specs.Save.{saveOut, saveOf};
@@ -77,7 +76,7 @@ pub fn save(
     let n = x.len();
     let room = 70 + 73 * n;
     let fits = rows::tested(room <= text.len(), 24, room);
-    let rest = rows::first(state::held_wind(clock), fits);
+    let rest = rows::first(limits::held_wind(clock.wind()), fits);
     if rest.number != 0 {
         return rest;
     }

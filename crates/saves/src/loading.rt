@@ -5,7 +5,6 @@ use frames::reading;
 use lists::rows;
 use lists::rows::Answer;
 use surge::Clock;
-use surge::stepping::state;
 ghost use mathlib.Core.Path.{_≡_};
 ghost use Prim.Native.Nat.{_+_, _-_, _*_, _<_, _≤_};
 ghost use lib.ListN.{length, take, drop, set};
@@ -148,7 +147,7 @@ fn bound(h: &[f64], text: &[u8], i: usize) -> Answer
     requires { ⌜ (i < length (now h)) × (length (now h) ≤ 4096) ⌝ }
     ensures { λ r. ⌜ r ≡ row10Read (now (h .entry)) (now (text .entry)) i ⌝ }
 {
-    rows::tested(state::in_bounds(node_at(h, text, i)), 10, i)
+    rows::tested(limits::in_bounds(node_at(h, text, i)), 10, i)
 }
 
 // Row 10: the first loaded node that is out of its bounds.
@@ -173,7 +172,7 @@ pub(crate) fn text_rows(e: usize, h: &[f64], text: &[u8]) -> Answer
     let n = h.len();
     let read = lines(n, e, text);
     let over = rows::tested(text.len() <= 70 + 73 * n, 20, n + 2);
-    let wind = state::held_wind(clock_of(n, text));
+    let wind = limits::held_wind(clock_of(n, text).wind());
     let values = bounds(h, text);
     rows::first(read, rows::first(over, rows::first(wind, values)))
 }

@@ -43,6 +43,18 @@ use Rattle.equations.proofs.outcomes.north.Kinds as north-kinds
 use Rattle.equations.proofs.outcomes.north.Reads as north-reads
 use Rattle.equations.proofs.outcomes.answer.Kinds as answer-kinds
 use Rattle.equations.proofs.outcomes.answer.Reads as answer-reads
+use Rattle.limits.proofs.is_sound.Kinds as is-sound-kinds
+use Rattle.limits.proofs.is_sound.Reads as is-sound-reads
+use Rattle.limits.proofs.parameters.Kinds as parameters-kinds
+use Rattle.limits.proofs.parameters.Reads as parameters-reads
+use Rattle.limits.proofs.in_bounds.Kinds as in-bounds-kinds
+use Rattle.limits.proofs.in_bounds.Reads as in-bounds-reads
+use Rattle.limits.proofs.may_count.Kinds as may-count-kinds
+use Rattle.limits.proofs.may_count.Reads as may-count-reads
+use Rattle.limits.proofs.held_wind.Kinds as held-wind-kinds
+use Rattle.limits.proofs.held_wind.Reads as held-wind-reads
+use Rattle.limits.proofs.forcing.Kinds as forcing-kinds
+use Rattle.limits.proofs.forcing.Reads as forcing-reads
 use Rattle.frames.proofs.patterns.pattern_of.Kinds as pattern-of-kinds
 use Rattle.frames.proofs.patterns.pattern_of.Reads as pattern-of-reads
 use Rattle.frames.proofs.patterns.float_of.Kinds as float-of-kinds
@@ -63,16 +75,14 @@ use Rattle.lists.proofs.slices.clear_whole.Kinds as clear-whole-kinds
 use Rattle.lists.proofs.slices.clear_whole.Reads as clear-whole-reads
 use Rattle.surge.proofs.stepping.rows_to_10.Kinds as rows-to-10-kinds
 use Rattle.surge.proofs.stepping.rows_to_10.Reads as rows-to-10-reads
-use Rattle.surge.proofs.stepping.state.held_wind.Kinds as held-wind-kinds
-use Rattle.surge.proofs.stepping.state.held_wind.Reads as held-wind-reads
 use Rattle.saves.proofs.read_forcing.Kinds as read-forcing-kinds
 use Rattle.saves.proofs.read_forcing.Reads as read-forcing-reads
 use Rattle.saves.proofs.save.Kinds as save-kinds
 use Rattle.saves.proofs.save.Reads as save-reads
+use Rattle.surge.proofs.Clock.wind.Kinds as wind-kinds
+use Rattle.surge.proofs.Clock.wind.Reads as wind-reads
 use Rattle.surge.proofs.mesh.check.Kinds as check-kinds
 use Rattle.surge.proofs.mesh.check.Reads as check-reads
-use Rattle.surge.proofs.stepping.state.in_bounds.Kinds as in-bounds-kinds
-use Rattle.surge.proofs.stepping.state.in_bounds.Reads as in-bounds-reads
 use Rattle.saves.proofs.load.Kinds as load-kinds
 use Rattle.saves.proofs.load.Reads as load-reads
 use Rattle.surge.proofs.step.Kinds as step-kinds
@@ -128,6 +138,24 @@ north-determined κs a x y v w p q = (same p q, refl)
 pub answer-determined : Determined answer-kinds.ps answer-kinds.r answer-reads.Post
 answer-determined κs a x y v w p q = (same p q, refl)
 
+pub is-sound-determined : Determined is-sound-kinds.ps is-sound-kinds.r is-sound-reads.Post
+is-sound-determined κs a x y v w p q = (same p q, refl)
+
+pub parameters-determined : Determined parameters-kinds.ps parameters-kinds.r parameters-reads.Post
+parameters-determined κs a x y v w p q = (same p q, refl)
+
+pub in-bounds-determined : Determined in-bounds-kinds.ps in-bounds-kinds.r in-bounds-reads.Post
+in-bounds-determined κs a x y v w p q = (same p q, refl)
+
+pub may-count-determined : Determined may-count-kinds.ps may-count-kinds.r may-count-reads.Post
+may-count-determined κs a x y v w p q = (same p q, refl)
+
+pub held-wind-determined : Determined held-wind-kinds.ps held-wind-kinds.r held-wind-reads.Post
+held-wind-determined κs a x y v w p q = (same p q, refl)
+
+pub forcing-determined : Determined forcing-kinds.ps forcing-kinds.r forcing-reads.Post
+forcing-determined κs a x y v w p q = (same p q, refl)
+
 pub pattern-of-determined : Determined pattern-of-kinds.ps pattern-of-kinds.r pattern-of-reads.Post
 pattern-of-determined κs a x y v w p q = (same p q, refl)
 
@@ -152,14 +180,11 @@ fault-determined κs a x y v w p q = (same p q, refl)
 pub rows-to-10-determined : Determined rows-to-10-kinds.ps rows-to-10-kinds.r rows-to-10-reads.Post
 rows-to-10-determined κs a x y v w p q = (same p q, refl)
 
-pub held-wind-determined : Determined held-wind-kinds.ps held-wind-kinds.r held-wind-reads.Post
-held-wind-determined κs a x y v w p q = (same p q, refl)
+pub wind-determined : Determined wind-kinds.ps wind-kinds.r wind-reads.Post
+wind-determined κs a x y v w p q = (same p q, refl)
 
 pub check-determined : Determined check-kinds.ps check-kinds.r check-reads.Post
 check-determined κs a x y v w p q = (same p q, refl)
-
-pub in-bounds-determined : Determined in-bounds-kinds.ps in-bounds-kinds.r in-bounds-reads.Post
-in-bounds-determined κs a x y v w p q = (same p q, refl)
 
 -- ---- functions that write a slice
 pub clear-determined : Determined clear-kinds.ps clear-kinds.r clear-reads.Post

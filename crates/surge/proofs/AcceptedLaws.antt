@@ -18,7 +18,8 @@ use Rattle.lists.proofs.GatherLaws.{gathered-le}
 use Rattle.equations.specs.declared.Parameters.{Parameters}
 use Rattle.surge.specs.Lent.{Mesh, N, E, corner, corners}
 use Rattle.surge.specs.Geometry.{sides, D, allNear, area, S}
-use Rattle.surge.specs.Rows.{allBelow, row1, row2, row3, row4, row5, rows3to5, row6If, row7, row8, row9, rows1to9}
+use Rattle.limits.specs.Limits.{isSound, row9}
+use Rattle.surge.specs.Rows.{allBelow, row1, row2, row3, row4, row5, rows3to5, row6If, row7, row8, rows1to9}
 use Rattle.surge.specs.Accepted.{Sized, Sound, Kept, Ranged, Accepted}
 use Rattle.surge.proofs.GeometryLaws.{all-small}
 use Rattle.surge.proofs.RowLaws.{below-all}
@@ -108,7 +109,7 @@ numbers-below m z s j h =
 
 -- ---- rows 7 and 8
 kept : (m : Mesh) (i : ℕ) → row7 (m .tri) i .number ≡ 0 → row8 (m .h) (m .kind) i .number ≡ 0 → Kept m i
-unfolding row7 row8
+unfolding row7 row8 isSound
 kept m i e f =
     let deep = within (decimal 1 1) (getD (m .h) i nan) (decimal 12000 1) in
     let known = leb (getD (m .kind) i 0) 2 in

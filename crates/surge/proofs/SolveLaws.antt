@@ -19,7 +19,7 @@ use Rattle.equations.specs.declared.Flow.{Flow}
 use Rattle.equations.specs.Operations.{_⊕_}
 use Rattle.equations.specs.Elevation.{slope}
 use Rattle.surge.specs.Lent.{corners}
-use Rattle.surge.specs.State.{inRun}
+use Rattle.surge.specs.State.{inRun, newWind}
 use Rattle.surge.specs.Equations.{count, triangles, node, floating, sidesAt, R, Sums, riseOf, rise, both, slopeX, slopeY, Px, Py, flowOf, pushOf, flowAt, nextState}
 use Rattle.surge.specs.Step.{speedOf, row13Level, row13Flow}
 use Rattle.surge.specs.Passes.{Rising, rising, RisingFits, riseIn, levelIn, Sloping, sloping, SlopingFits, bothOf, slopeOf, slopeIn, PxIn, PyIn, slopeRoom, Moving, moving, MovingFits, flowIn, speedIn, flowRoom, Solving, SolvingFits, risenRoom, solvedRoom}
@@ -131,7 +131,7 @@ module _ (v : Solving) (z : SolvingFits v) where
       record {
         p = s .p;
         wind = s .wind;
-        new = record { x = v .f .wx; y = v .f .wy };
+        new = newWind (v .f);
         kind = v .kind;
         h = s .h;
         state = s .state;
@@ -145,7 +145,7 @@ module _ (v : Solving) (z : SolvingFits v) where
   moved-fits = record { kind = z .kind; state = z .ready .state; sums = length-table _ _; exact = sums-exact }
 
   pub moved-from : (sums : List ℕ) (work : List Float) → sums ≡ table (count (v .sea)) (Sums (v .sea)) → work ≡ sloped-room
-      → moving (v .sea .p) (v .sea .wind) (record { x = v .f .wx; y = v .f .wy }) (v .kind) (v .sea .h) (v .sea .state) sums work ≡ moved
+      → moving (v .sea .p) (v .sea .wind) (newWind (v .f)) (v .kind) (v .sea .h) (v .sea .state) sums work ≡ moved
   unfolding sloped-room
   moved-from sums work es ew =
       let s = v .sea in
@@ -156,7 +156,7 @@ module _ (v : Solving) (z : SolvingFits v) where
       λ j. record {
         p = s .p;
         wind = s .wind;
-        new = record { x = v .f .wx; y = v .f .wy };
+        new = newWind (v .f);
         kind = v .kind;
         h = s .h;
         state = s .state;
@@ -172,7 +172,7 @@ module _ (v : Solving) (z : SolvingFits v) where
       let s = v .sea in
       let n = count s in
       λ j. flowOf (s .p) (getD (v .kind) i 0)
-      (pushOf (node s i) (s .wind) (record { x = v .f .wx; y = v .f .wy })
+      (pushOf (node s i) (s .wind) (newWind (v .f))
       (getD-table n (Sums s) i 0 h j)
       (getD-table n (rise s (v .kind) (v .f)) i nan h j)
       (getD-table n (Px s (v .kind) (v .f)) i nan h j)

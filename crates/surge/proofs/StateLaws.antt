@@ -7,7 +7,8 @@ use lib.Ieee.{Float}
 use Rattle.lists.specs.declared.rows.Answer.{Answer}
 use Rattle.lists.specs.Scan.{refused}
 use Rattle.lists.proofs.ScanLaws.{row-holds, row-fails}
-use Rattle.surge.specs.State.{nodeOf, inBounds, row10}
+use Rattle.limits.specs.Limits.{inBounds}
+use Rattle.surge.specs.State.{nodeOf, row10}
 
 module _ (h state : List Float) (i : ℕ) where
   pub bounds-held : inBounds (nodeOf h state i) ≡ true → row10 h state i .number ≡ 0

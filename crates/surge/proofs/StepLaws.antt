@@ -16,7 +16,8 @@ use Rattle.surge.specs.declared.Clock.{Clock}
 use Rattle.surge.specs.Lent.{N}
 use Rattle.surge.specs.Rows.{rows1to9}
 use Rattle.surge.specs.Accepted.{Accepted}
-use Rattle.surge.specs.State.{rows1to10, row11, advanced}
+use Rattle.limits.specs.Limits.{row11}
+use Rattle.surge.specs.State.{rows1to10, advanced}
 use Rattle.surge.specs.Equations.{nextState}
 use Rattle.surge.specs.Step.{Given, seaOf, advance, before13, row13, Rooms, roomy, cleared, stepOut, refusedBefore, refusedBy13, wentOn, stepsTo, stepOf}
 use Rattle.surge.specs.Passes.{Solving, solving, SolvingFits}

@@ -23,7 +23,7 @@ use Rattle.equations.specs.Velocity.{flow}
 use Rattle.surge.specs.declared.Forcing.{Forcing}
 use Rattle.surge.specs.Lent.{corners}
 use Rattle.surge.specs.Geometry.{sides, floats, S}
-use Rattle.surge.specs.State.{nodeOf}
+use Rattle.surge.specs.State.{nodeOf, newWind}
 
 -- ---- single values
 
@@ -132,7 +132,7 @@ module _ (s : Sea) where
     -- U' and V' of node i
     unfoldable pub flowAt : ℕ → Flow
     flowAt i =
-        flowOf (s .p) (getD kind i 0) (pushOf (node i) (s .wind) (record { x = f .wx; y = f .wy }) (Sums i) (rise i) (Px i) (Py i))
+        flowOf (s .p) (getD kind i 0) (pushOf (node i) (s .wind) (newWind f) (Sums i) (rise i) (Px i) (Py i))
 
     abbrev pub U′ : ℕ → Float
     U′ i = flowAt i .u

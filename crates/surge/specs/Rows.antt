@@ -8,9 +8,10 @@ use lib.Dec.{ltb, leb, eqb}
 use lib.ListN.{length, getD}
 use lib.Ieee.{Float, nan}
 use Rattle.lists.specs.declared.rows.Answer.{Answer}
-use Rattle.lists.specs.Scan.{accepted, row, _then_, scan, some, within, decimal, minus}
+use Rattle.lists.specs.Scan.{accepted, row, _then_, scan, some}
 use Rattle.lists.specs.Gather.{Three}
 use Rattle.equations.specs.declared.Parameters.{Parameters}
+use Rattle.limits.specs.Limits.{isSound, row9}
 use Rattle.surge.specs.Lent.{Mesh, N, E, corner, corners}
 use Rattle.surge.specs.Geometry.{sides, D, allNear}
 
@@ -71,15 +72,7 @@ row7 tri i = row (isNamed tri i) 7 i
 
 -- | 8 | h not 1..12,000, or kind above 2 | node |
 unfoldable pub row8 : List Float → List ℕ → ℕ → Answer
-row8 h kind i = row (within (decimal 1 1) (getD h i nan) (decimal 12000 1) && leb (getD kind i 0) 2) 8 i
-
--- | 9 | dt not 0.125..60, tau not 0..1, K not 0..1, f not -0.001..0.001 | 0..3 |
-unfoldable pub row9 : Parameters → Answer
-row9 p =
-    row (within (decimal 125 1000) (p .dt) (decimal 60 1)) 9 0
-    then row (within (decimal 0 1) (p .tau) (decimal 1 1)) 9 1
-    then row (within (decimal 0 1) (p .k) (decimal 1 1)) 9 2
-    then row (within (minus 1 1000) (p .f) (decimal 1 1000)) 9 3
+row8 h kind i = row (isSound (getD h i nan) (getD kind i 0)) 8 i
 
 -- "Order: 1, 2, then triangle by triangle 3, 4, 5, then 6, 7, 8, 9, and the first place in each."
 unfoldable pub rows1to9 : Bool → Bool → Mesh → Parameters → Answer

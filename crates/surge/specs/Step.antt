@@ -16,7 +16,8 @@ use Rattle.surge.specs.declared.Clock.{Clock}
 use Rattle.surge.specs.declared.Forcing.{Forcing}
 use Rattle.surge.specs.declared.Reply.{Reply}
 use Rattle.surge.specs.Lent.{Mesh, N}
-use Rattle.surge.specs.State.{rows1to10, row11, row12, windOf, advanced}
+use Rattle.limits.specs.Limits.{row11, row12Held, row12New}
+use Rattle.surge.specs.State.{rows1to10, windOf, newWind, advanced}
 use Rattle.surge.specs.Equations.{Sea, sea, count, node, rise, flowAt, nextState}
 
 -- what a step is given: a mesh and parameters, the run's state and clock, and a forcing
@@ -59,7 +60,11 @@ advance g = record { state = nextState (seaOf g) (g .mesh .kind) (g .forcing); c
 -- ---- the answer
 -- "A step goes on with 10, 11, 12": what is tested before anything is worked out
 unfoldable pub before13 : Bool → Given → Answer
-before13 rooms g = rows1to10 rooms (g .mesh) (g .p) (g .state) then row11 (g .clock) then row12 (g .clock) (g .forcing)
+before13 rooms g =
+    rows1to10 rooms (g .mesh) (g .p) (g .state)
+    then row11 (g .clock .step)
+    then row12Held (windOf (g .clock))
+    then row12New (g .forcing .elevation) (newWind (g .forcing))
 
 -- ---- what a step leaves
 -- "The next state goes to a second lent slice of 4N; work room is 3N binary64 and N 64-bit unsigned."

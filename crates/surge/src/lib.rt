@@ -9,7 +9,7 @@ use lists::slices;
 ghost use mathlib.Core.Path.{_≡_};
 ghost use Rattle.surge.specs.Lent.{mesh, coldClock, after};
 ghost use Prim.Native.Nat.{_<_};
-ghost use Rattle.surge.specs.State.{advanced};
+ghost use Rattle.surge.specs.State.{windOf, advanced};
 ghost use Rattle.surge.specs.Step.{given, lentRooms, stepOut, stepOf};
 ghost use Rattle.surge.specs.Open.{openOf};
 
@@ -36,6 +36,16 @@ impl Clock {
             step: 0,
             wx: 0.0,
             wy: 0.0,
+        }
+    }
+
+    // The present wind.
+    pub fn wind(self) -> Wind
+        ensures { λ r. ⌜ r ≡ windOf self ⌝ }
+    {
+        Wind {
+            x: self.wx,
+            y: self.wy,
         }
     }
 
@@ -110,10 +120,7 @@ pub fn step(
             clock,
         };
     }
-    let held = Wind {
-        x: clock.wx,
-        y: clock.wy,
-    };
+    let held = clock.wind();
     let last = stepping::advance(next, work, sums, x, y, tri, h, kind, p, state, held, f);
     if last.number != 0 {
         return Reply {

@@ -9,7 +9,7 @@ use lists::rows::Answer;
 ghost use mathlib.Core.Path.{_≡_};
 ghost use Rattle.lists.specs.Scan.{_then_};
 ghost use Rattle.surge.specs.Lent.{mesh};
-ghost use Rattle.surge.specs.Rows.{row1, row2, row9, rows1to9};
+ghost use Rattle.surge.specs.Rows.{row1, row2, rows1to9};
 
 // Rows 1 and 2. `rooms`: the other slices lent to the call have their lengths.
 fn sizes(rooms: bool, x: &[i32], y: &[i32], tri: &[u16], h: &[f64], kind: &[u8]) -> Answer
@@ -24,17 +24,6 @@ fn sizes(rooms: bool, x: &[i32], y: &[i32], tri: &[u16], h: &[f64], kind: &[u8])
         & (tri.len() % 3 == 0);
     let counts = (3 <= n) & (n <= 4096) & (1 <= e) & (e <= 8192);
     rows::first(rows::tested(lengths, 1, 0), rows::tested(counts, 2, 0))
-}
-
-// Row 9: the first parameter that is out of its range.
-fn parameters(p: Parameters) -> Answer
-    ensures { λ r. ⌜ r ≡ row9 p ⌝ }
-{
-    let dt = rows::tested(rows::in_range(0.125, p.dt, 60.0), 9, 0);
-    let tau = rows::tested(rows::in_range(0.0, p.tau, 1.0), 9, 1);
-    let k = rows::tested(rows::in_range(0.0, p.k, 1.0), 9, 2);
-    let f = rows::tested(rows::in_range(-0.001, p.f, 0.001), 9, 3);
-    rows::first(dt, rows::first(tau, rows::first(k, f)))
 }
 
 // Rows 1 to 9. Row 6 is tested only where a mesh is opened.
@@ -70,5 +59,5 @@ pub fn check(
     if depths.number != 0 {
         return depths;
     }
-    parameters(p)
+    limits::parameters(p)
 }

@@ -1,6 +1,6 @@
 // A step: rows 10 to 13, and the equations.
 pub(crate) mod elevation;
-pub mod state;
+pub(crate) mod state;
 pub(crate) mod sums;
 pub(crate) mod velocity;
 
@@ -63,10 +63,12 @@ pub(crate) fn before_13(
     ensures { λ r. ⌜ r ≡ before13 rooms (given (mesh (now (x .entry)) (now (y .entry)) (now (tri .entry)) (now (h .entry)) (now (kind .entry))) p (now (state .entry)) clock f) ⌝ }
 {
     let lent = rows_to_10(rooms, x, y, tri, h, kind, p, state);
-    rows::first(
-        lent,
-        rows::first(state::count(clock), state::winds(clock, f)),
-    )
+    let new = Wind { x: f.wx, y: f.wy };
+    let winds = rows::first(
+        limits::held_wind(clock.wind()),
+        limits::forcing(f.elevation, new),
+    );
+    rows::first(lent, rows::first(limits::may_count(clock.step), winds))
 }
 
 // Row 13, with z', U' and V' of every node in the work room where it accepts.

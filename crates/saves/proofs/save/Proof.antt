@@ -1,11 +1,12 @@
-use mathlib.Core.Path.{_≡_, refl, _∙_}
+use mathlib.Core.Path.{_≡_, refl, ap, _∙_}
 use mathlib.Core.Bool.{true}
 use native.Mathlib.Omega.{arith}
 use lib.Ieee.{ofBits}
 use Rattle.lists.specs.Scan.{_then_}
 use Rattle.lists.proofs.ScanLaws.{same-number}
 use Rattle.surge.specs.Lent.{Mesh, mesh, N}
-use Rattle.surge.specs.State.{rows1to10, row12Held}
+use Rattle.limits.specs.Limits.{row12Held}
+use Rattle.surge.specs.State.{rows1to10, windOf}
 use Rattle.saves.specs.Save.{row24}
 use Rattle.saves.proofs.SaveLaws.{stopped, few, state-long, stopped-after, roomy, saved}
 use borrow.Author.Needs.{needs}
@@ -22,10 +23,12 @@ passed : (c : tie.Else1) → let s = start (c .before .before) in rows1to10 true
 passed c = same-number (c .before .before .rows-to-10 .ensures) (c .if1 .left)
 
 -- rows 12 and 24
-rest : (c : tie.After-first) → let s = start (c .before .before .before .before .before) in
-    c .first .result ≡ (row12Held (s .args .clock) then row24 (N (net s)) (s .args .text .now))
+rest : (c : tie.After-first) → let s = start (c .before .before .before .before .before .before) in
+    c .first .result ≡ (row12Held (windOf (s .args .clock)) then row24 (N (net s)) (s .args .text .now))
 unfolding row24
-rest c = c .first .ensures ∙ (λ i. c .before .held-wind .ensures i then c .before .before .tested .ensures i)
+rest c =
+    let w = c .before .before in
+    c .first .ensures ∙ (λ i. (c .before .held-wind .ensures ∙ ap row12Held (w .wind .ensures)) i then w .before .tested .ensures i)
 
 rows-to-10-requires : tie.Need-rows-to-10-requires
 rows-to-10-requires c κs = search needs
@@ -44,6 +47,9 @@ add-room c = omega (arith, few _ _ _ (passed c))
 tested-requires : tie.Need-tested-requires
 tested-requires c κs = search needs
 
+wind-requires : tie.Need-wind-requires
+wind-requires c κs = search needs
+
 held-wind-requires : tie.Need-held-wind-requires
 held-wind-requires c κs = search needs
 
@@ -53,13 +59,14 @@ first-requires c κs = search needs
 returns-2 : tie.Need-returns-2
 returns-2 c =
     let f = c .before .before in
-    stopped-after _ _ _ _ _ (passed (f .before .before .before)) _ (rest f) (c .if2 .taken)
+    stopped-after _ _ _ _ _ (passed (f .before .before .before .before)) _ (rest f) (c .if2 .taken)
 
 write-requires : tie.Need-write-requires
 write-requires c κs =
     let f = c .before .before .before in
-    let ok = passed (f .before .before .before) in
-    (few _ _ _ ok, state-long _ _ _ ok, roomy _ _ _ _ _ ok _ (rest f) (c .before .if2 .left))
+    let e = f .before .before .before .before in
+    let ok = passed e in
+    (few _ _ _ ok, state-long _ _ _ ok, roomy _ _ _ (start (e .before .before) .args .clock) _ ok _ (rest f) (c .before .if2 .left))
 
 same-length : tie.Need-same-length
 same-length c = search needs
@@ -70,7 +77,7 @@ returns-3 c =
     let w = c .before .before in
     let e = w .before .before in
     let f = e .before .before in
-    saved _ _ _ _ _ (passed (f .before .before .before)) _ (rest f) (e .if2 .left) refl (w .write .ensures)
+    saved _ _ _ _ _ (passed (f .before .before .before .before)) _ (rest f) (e .if2 .left) refl (w .write .ensures)
 
 pub save-spec : {M : Type 1} → statement M
 save-spec =
@@ -81,6 +88,7 @@ save-spec =
     mul-room
     add-room
     tested-requires
+    wind-requires
     held-wind-requires
     first-requires
     returns-2

@@ -41,12 +41,16 @@ before-13-requires c κs = search needs
 returns : tie.Need-returns
 returns c = let k = c .before .before in stopped (its (start k)) (lent (start k)) _ (answered k) (c .if1 .taken)
 
+wind-requires : tie.Need-wind-requires
+wind-requires c κs = search needs
+
 advance-requires : tie.Need-advance-requires
 advance-requires c κs =
-    let k = c .before .before .before in
+    let w = c .before .before .before in
+    let k = w .before in
     let s = start (k .before .before) in
     let ok = passed k in
-    (solving-fits (its s) (lent s) ok, (next-long (its s) (lent s) ok, work-long (its s) (lent s) ok, sums-long (its s) (lent s) ok))
+    (rw (w .wind .ensures) (solving-fits (its s) (lent s) ok), (next-long (its s) (lent s) ok, work-long (its s) (lent s) ok, sums-long (its s) (lent s) ok))
 
 same-length : tie.Need-same-length
 same-length c = search needs
@@ -60,14 +64,15 @@ same-length-3 c = search needs
 returns-2 : tie.Need-returns-2
 returns-2 c =
     let a = c .before .before .before .before .before .before .before .before in
-    let k = a .before .before .before .before in
+    let w = a .before .before .before .before in
+    let k = w .before in
     let s = start (k .before .before) in
-    let e = a .advance .ensures in
+    let e = rw (w .wind .ensures) at (a .advance .ensures) in
     by-13 (its s) (lent s) (passed k) _ (e .0) _ _ _ (e .1 .0) (e .1 .1 .0) (e .1 .1 .1) (c .if2 .taken)
 
 advanced-requires : tie.Need-advanced-requires
 advanced-requires c κs =
-    let k = c .before .before .before .before .before .before .before .before .before .before .before .before in
+    let k = c .before .before .before .before .before .before .before .before .before .before .before .before .before in
     let s = start (k .before .before) in
     omega (arith, not-last (its s) (lent s) (passed k), s .good)
 
@@ -84,9 +89,10 @@ returns-3 : tie.Need-returns-3
 returns-3 c =
     let d = c .before in
     let a = d .before .before .before .before .before .before .before .before in
-    let k = a .before .before .before .before in
+    let w = a .before .before .before .before in
+    let k = w .before in
     let s = start (k .before .before) in
-    let e = a .advance .ensures in
+    let e = rw (w .wind .ensures) at (a .advance .ensures) in
     went-on (its s) (lent s) (passed k) _ (e .0) _ _ _ (e .1 .0) (e .1 .1 .0) (e .1 .1 .1) (d .if2 .left) _ (c .advanced .ensures)
 
 pub step-spec : {M : Type 1} → statement M
@@ -98,6 +104,7 @@ step-spec =
     is-runs-requires-3
     before-13-requires
     returns
+    wind-requires
     advance-requires
     same-length
     same-length-2

@@ -37,22 +37,13 @@ pub(crate) fn named(tri: &[u16], n: usize) -> Answer
     rows::accept()
 }
 
-// Row 8 of one node.
-fn depth(h: &[f64], kind: &[u8], i: usize) -> Answer
-    requires { ⌜ (i < length (now h)) × (i < length (now kind)) ⌝ }
-    ensures { λ r. ⌜ r ≡ row8 (now (h .entry)) (now (kind .entry)) i ⌝ }
-{
-    let deep = rows::in_range(1.0, h[i], 12000.0);
-    rows::tested(deep & (kind[i] <= 2), 8, i)
-}
-
 // Row 8: the first node whose depth or kind is out of range.
 pub(crate) fn depths(h: &[f64], kind: &[u8]) -> Answer
     requires { ⌜ length (now kind) ≡ length (now h) ⌝ }
     ensures { λ r. ⌜ r ≡ scan (row8 (now (h .entry)) (now (kind .entry))) (length (now (h .entry))) ⌝ }
 {
     for i in 0..h.len() {
-        let answer = depth(h, kind, i);
+        let answer = rows::tested(limits::is_sound(h[i], kind[i]), 8, i);
         if answer.number != 0 {
             return answer;
         }

@@ -1,7 +1,7 @@
 use mathlib.Core.Path.{ap, _∙_}
 use mathlib.Core.Bool.{Bool}
 use Rattle.lists.specs.Scan.{row}
-use Rattle.surge.specs.State.{inBounds}
+use Rattle.limits.specs.Limits.{inBounds}
 use borrow.Author.Needs.{needs}
 use Rattle.saves.proofs.loading.bound.Statement.{statement}
 use Rattle.saves.proofs.loading.bound.Tie as tie

@@ -5,7 +5,7 @@ use borrow.Author.Count.{below-none, below-more}
 use borrow.Author.Needs.{needs}
 use Rattle.lists.proofs.ScanLaws.{scan-none, scan-hit, same-number, other-number}
 use Rattle.lists.specs.Scan.{row}
-use Rattle.surge.specs.State.{inBounds}
+use Rattle.limits.specs.Limits.{inBounds}
 use Rattle.saves.specs.Load.{loadedNode}
 use Rattle.saves.proofs.loading.bounds.Statement.{statement}
 use Rattle.saves.proofs.loading.bounds.Tie as tie

@@ -1,8 +1,10 @@
 use Prim.Native.Nat.{ℕ, _-_, _≤_, _<_}
-use mathlib.Core.Path.{_≡_, sym, _∙_}
+use mathlib.Core.Path.{_≡_, sym, ap, _∙_}
+use mathlib.Core.Bool.{Bool}
 use native.Mathlib.Omega.{arith}
 use borrow.Author.Count.{below-none, below-more}
 use borrow.Author.Needs.{needs}
+use Rattle.lists.specs.Scan.{row}
 use Rattle.lists.proofs.ScanLaws.{scan-none, scan-hit, same-number, other-number}
 use Rattle.surge.specs.Rows.{row8}
 use Rattle.surge.proofs.mesh.nodes.depths.Statement.{statement}
@@ -18,14 +20,32 @@ abbrev μ-loop : tie.MeasureT-loop
 loop-holds : tie.Need-loop-holds Inv-loop μ-loop
 loop-holds c = (search needs, below-none _)
 
-depth-requires : tie.Need-depth-requires Inv-loop μ-loop
-depth-requires c κs = search needs
+mul-is-sound : tie.Need-mul-is-sound Inv-loop μ-loop
+mul-is-sound c = search needs
+
+shared-slice-read-is-sound : tie.Need-shared-slice-read-is-sound Inv-loop μ-loop
+shared-slice-read-is-sound c = search needs
+
+shared-slice-read-is-sound-2 : tie.Need-shared-slice-read-is-sound-2 Inv-loop μ-loop
+shared-slice-read-is-sound-2 c = search needs
+
+is-sound-requires : tie.Need-is-sound-requires Inv-loop μ-loop
+is-sound-requires c κs = search needs
+
+tested-requires : tie.Need-tested-requires Inv-loop μ-loop
+tested-requires c κs = search needs
+
+-- the answer is row 8 of this node
+answered : (c : tie.After-tested Inv-loop μ-loop) → let l = c .before .before .before .before .before in let a = l .before .before .before .args in
+    c .tested .result ≡ row8 (a .h .now) (a .kind .now) (l .loop .i)
+unfolding row8
+answered c = c .tested .ensures ∙ ap (λ (b : Bool). row b 8 (c .before .before .before .before .before .loop .i)) (c .before .is-sound .ensures)
 
 returns : tie.Need-returns Inv-loop μ-loop
 returns c =
-    let l = c .before .before .before .before in
-    let e = c .before .before .depth .ensures in
-    e ∙ sym (scan-hit _ _ _ (c .before .before .before .loop-test .taken) (l .loop .inv .1) (other-number e (c .if1 .taken)))
+    let t = c .before .before in
+    let l = t .before .before .before .before .before in
+    answered t ∙ sym (scan-hit _ _ _ (t .before .before .before .before .loop-test .taken) (l .loop .inv .1) (other-number (answered t) (c .if1 .taken)))
 
 add-i : tie.Need-add-i Inv-loop μ-loop
 add-i c = search needs
@@ -34,7 +54,9 @@ loop-less : tie.Need-loop-less Inv-loop μ-loop
 loop-less c = search needs
 
 loop-again : tie.Need-loop-again Inv-loop μ-loop
-loop-again c = (search needs, below-more _ _ (c .before .before .before .before .loop .inv .1) (same-number (c .before .before .depth .ensures) (c .if1 .left)))
+loop-again c =
+    let t = c .before .before in
+    (search needs, below-more _ _ (t .before .before .before .before .before .loop .inv .1) (same-number (answered t) (c .if1 .left)))
 
 accept-requires : tie.Need-accept-requires Inv-loop μ-loop
 accept-requires c κs = search needs
@@ -49,7 +71,11 @@ depths-spec =
     Inv-loop
     μ-loop
     loop-holds
-    depth-requires
+    mul-is-sound
+    shared-slice-read-is-sound
+    shared-slice-read-is-sound-2
+    is-sound-requires
+    tested-requires
     returns
     add-i
     loop-less

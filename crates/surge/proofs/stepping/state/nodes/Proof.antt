@@ -7,7 +7,8 @@ use borrow.Author.Tests.{not-true, not-false}
 use Rattle.lists.specs.declared.rows.Answer.{Answer}
 use Rattle.lists.specs.Scan.{refused}
 use Rattle.lists.proofs.ScanLaws.{scan-none, scan-hit}
-use Rattle.surge.specs.State.{nodeOf, inBounds, row10}
+use Rattle.limits.specs.Limits.{inBounds}
+use Rattle.surge.specs.State.{nodeOf, row10}
 use Rattle.surge.proofs.StateLaws.{bounds-held, bounds-failed}
 use Rattle.surge.proofs.stepping.state.nodes.Statement.{statement}
 use Rattle.surge.proofs.stepping.state.nodes.Tie as tie

@@ -1,9 +1,9 @@
 use lib.Ieee.{ofBits, neg, round}
 use Rattle.lists.specs.Scan.{decimal, minus}
-use Rattle.surge.specs.State.{row12Held}
+use Rattle.limits.specs.Limits.{row12Held}
 use borrow.Author.Needs.{needs}
-use Rattle.surge.proofs.stepping.state.held_wind.Statement.{statement}
-use Rattle.surge.proofs.stepping.state.held_wind.Tie as tie
+use Rattle.limits.proofs.held_wind.Statement.{statement}
+use Rattle.limits.proofs.held_wind.Tie as tie
 
 in-range-requires : tie.Need-in-range-requires
 in-range-requires c κs = search needs

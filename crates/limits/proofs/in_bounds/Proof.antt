@@ -1,9 +1,9 @@
 use lib.Ieee.{ofBits, neg, round}
 use Rattle.lists.specs.Scan.{decimal, minus}
-use Rattle.surge.specs.State.{inBounds}
+use Rattle.limits.specs.Limits.{inBounds}
 use borrow.Author.Needs.{needs}
-use Rattle.surge.proofs.stepping.state.in_bounds.Statement.{statement}
-use Rattle.surge.proofs.stepping.state.in_bounds.Tie as tie
+use Rattle.limits.proofs.in_bounds.Statement.{statement}
+use Rattle.limits.proofs.in_bounds.Tie as tie
 
 in-range-requires : tie.Need-in-range-requires
 in-range-requires c κs = search needs

@@ -1,9 +1,9 @@
 use lib.Ieee.{ofBits, neg, round}
 use Rattle.lists.specs.Scan.{decimal, minus}
-use Rattle.surge.specs.Rows.{row9}
+use Rattle.limits.specs.Limits.{row9}
 use borrow.Author.Needs.{needs}
-use Rattle.surge.proofs.mesh.parameters.Statement.{statement}
-use Rattle.surge.proofs.mesh.parameters.Tie as tie
+use Rattle.limits.proofs.parameters.Statement.{statement}
+use Rattle.limits.proofs.parameters.Tie as tie
 
 in-range-requires : tie.Need-in-range-requires
 in-range-requires c κs = search needs

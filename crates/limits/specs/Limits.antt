@@ -1,0 +1,43 @@
+-- Document 01, "Refusal table", rows 8 to 12 on single values, each under its line of the table.
+use Prim.Native.Nat.{ℕ}
+use mathlib.Core.Bool.{Bool, _&&_, not}
+use lib.Dec.{eqb, leb}
+use lib.Ieee.{Float, le}
+use Rattle.lists.specs.declared.rows.Answer.{Answer}
+use Rattle.lists.specs.Scan.{row, _then_, within, decimal, minus}
+use Rattle.equations.specs.declared.Parameters.{Parameters}
+use Rattle.equations.specs.declared.Node.{Node}
+use Rattle.equations.specs.declared.Wind.{Wind}
+use Rattle.equations.specs.Operations.{_⊕_}
+use Rattle.equations.specs.Constants.{tenth}
+use Rattle.equations.specs.Outcomes.{inSize}
+
+-- | 8 | h not 1..12,000, or kind above 2 | node |
+unfoldable pub isSound : Float → ℕ → Bool
+isSound h kind = within (decimal 1 1) h (decimal 12000 1) && leb kind 2
+
+-- | 9 | dt not 0.125..60, tau not 0..1, K not 0..1, f not -0.001..0.001 | 0..3 |
+unfoldable pub row9 : Parameters → Answer
+row9 p =
+    row (within (decimal 125 1000) (p .dt) (decimal 60 1)) 9 0
+    then row (within (decimal 0 1) (p .tau) (decimal 1 1)) 9 1
+    then row (within (decimal 0 1) (p .k) (decimal 1 1)) 9 2
+    then row (within (minus 1 1000) (p .f) (decimal 1 1000)) 9 3
+
+-- | 10 | either z beyond 30 in size, present h+z below 0.1, U or V beyond 20 | node |
+unfoldable pub inBounds : Node → Bool
+inBounds c = inSize 30 (c .earlier) && inSize 30 (c .z) && le tenth (c .h ⊕ c .z) && inSize 20 (c .u) && inSize 20 (c .v)
+
+-- | 11 | step number is 4,294,967,295 |
+unfoldable pub row11 : ℕ → Answer
+row11 step = row (not (eqb step 4294967295)) 11 0
+
+-- | 12 | held wind beyond 0.1; forcing elevation beyond 30; Wx', Wy' beyond 0.1 | 0; 1; 2, 3 |
+abbrev pub calm : Float → Bool
+calm w = within (minus 1 10) w (decimal 1 10)
+
+unfoldable pub row12Held : Wind → Answer
+row12Held w = row (calm (w .x) && calm (w .y)) 12 0
+
+unfoldable pub row12New : Float → Wind → Answer
+row12New elevation w = row (inSize 30 elevation) 12 1 then row (calm (w .x)) 12 2 then row (calm (w .y)) 12 3

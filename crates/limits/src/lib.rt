@@ -1,0 +1,60 @@
+// The limits of document 01 on single values: what rows 8 to 12 of the refusal table ask of a node, the parameters, a clock and a forcing.
+use equations::Node;
+use equations::Parameters;
+use equations::Wind;
+use lists::rows;
+use lists::rows::Answer;
+ghost use mathlib.Core.Path.{_≡_};
+ghost use Rattle.limits.specs.Limits.{isSound, row9, inBounds, row11, row12Held, row12New};
+
+// Row 8 of one node: its depth and its kind.
+pub fn is_sound(h: f64, kind: u8) -> bool
+    ensures { λ r. ⌜ r ≡ isSound h kind ⌝ }
+{
+    rows::in_range(1.0, h, 12000.0) & (kind <= 2)
+}
+
+// Row 9: the first parameter that is out of its range.
+pub fn parameters(p: Parameters) -> Answer
+    ensures { λ r. ⌜ r ≡ row9 p ⌝ }
+{
+    let dt = rows::tested(rows::in_range(0.125, p.dt, 60.0), 9, 0);
+    let tau = rows::tested(rows::in_range(0.0, p.tau, 1.0), 9, 1);
+    let k = rows::tested(rows::in_range(0.0, p.k, 1.0), 9, 2);
+    let f = rows::tested(rows::in_range(-0.001, p.f, 0.001), 9, 3);
+    rows::first(dt, rows::first(tau, rows::first(k, f)))
+}
+
+// Row 10 of one node.
+pub fn in_bounds(c: Node) -> bool
+    ensures { λ r. ⌜ r ≡ inBounds c ⌝ }
+{
+    let level = rows::in_range(-30.0, c.earlier, 30.0) & rows::in_range(-30.0, c.z, 30.0);
+    let column = 0.1 <= c.h + c.z;
+    level & column & rows::in_range(-20.0, c.u, 20.0) & rows::in_range(-20.0, c.v, 20.0)
+}
+
+// Row 11: the last step number.
+pub fn may_count(step: u32) -> Answer
+    ensures { λ r. ⌜ r ≡ row11 step ⌝ }
+{
+    rows::tested(step != 4294967295, 11, 0)
+}
+
+// Row 12 of the wind that is held.
+pub fn held_wind(w: Wind) -> Answer
+    ensures { λ r. ⌜ r ≡ row12Held w ⌝ }
+{
+    let calm = rows::in_range(-0.1, w.x, 0.1) & rows::in_range(-0.1, w.y, 0.1);
+    rows::tested(calm, 12, 0)
+}
+
+// Row 12 of a forcing: its elevation and its wind.
+pub fn forcing(elevation: f64, w: Wind) -> Answer
+    ensures { λ r. ⌜ r ≡ row12New elevation w ⌝ }
+{
+    let level = rows::tested(rows::in_range(-30.0, elevation, 30.0), 12, 1);
+    let wx = rows::tested(rows::in_range(-0.1, w.x, 0.1), 12, 2);
+    let wy = rows::tested(rows::in_range(-0.1, w.y, 0.1), 12, 3);
+    rows::first(level, rows::first(wx, wy))
+}
