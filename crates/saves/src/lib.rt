@@ -3,6 +3,7 @@ pub(crate) mod loading;
 pub(crate) mod writing;
 
 use equations::Parameters;
+use equations::Wind;
 use frames::patterns;
 use frames::reading;
 use lists::rows;
@@ -76,7 +77,11 @@ pub fn save(
     let n = x.len();
     let room = 70 + 73 * n;
     let fits = rows::tested(room <= text.len(), 24, room);
-    let rest = rows::first(limits::held_wind(clock.wind()), fits);
+    let held = Wind {
+        x: clock.wx,
+        y: clock.wy,
+    };
+    let rest = rows::first(limits::held_wind(held), fits);
     if rest.number != 0 {
         return rest;
     }

@@ -79,8 +79,6 @@ use Rattle.saves.proofs.read_forcing.Kinds as read-forcing-kinds
 use Rattle.saves.proofs.read_forcing.Reads as read-forcing-reads
 use Rattle.saves.proofs.save.Kinds as save-kinds
 use Rattle.saves.proofs.save.Reads as save-reads
-use Rattle.surge.proofs.Clock.wind.Kinds as wind-kinds
-use Rattle.surge.proofs.Clock.wind.Reads as wind-reads
 use Rattle.surge.proofs.mesh.check.Kinds as check-kinds
 use Rattle.surge.proofs.mesh.check.Reads as check-reads
 use Rattle.saves.proofs.load.Kinds as load-kinds
@@ -179,9 +177,6 @@ fault-determined κs a x y v w p q = (same p q, refl)
 
 pub rows-to-10-determined : Determined rows-to-10-kinds.ps rows-to-10-kinds.r rows-to-10-reads.Post
 rows-to-10-determined κs a x y v w p q = (same p q, refl)
-
-pub wind-determined : Determined wind-kinds.ps wind-kinds.r wind-reads.Post
-wind-determined κs a x y v w p q = (same p q, refl)
 
 pub check-determined : Determined check-kinds.ps check-kinds.r check-reads.Post
 check-determined κs a x y v w p q = (same p q, refl)

@@ -40,7 +40,7 @@ impl Clock {
     }
 
     // The present wind.
-    pub fn wind(self) -> Wind
+    pub(crate) fn wind(self) -> Wind
         ensures { λ r. ⌜ r ≡ windOf self ⌝ }
     {
         Wind {

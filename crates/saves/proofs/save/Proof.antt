@@ -1,4 +1,4 @@
-use mathlib.Core.Path.{_≡_, refl, ap, _∙_}
+use mathlib.Core.Path.{_≡_, refl, _∙_}
 use mathlib.Core.Bool.{true}
 use native.Mathlib.Omega.{arith}
 use lib.Ieee.{ofBits}
@@ -23,12 +23,10 @@ passed : (c : tie.Else1) → let s = start (c .before .before) in rows1to10 true
 passed c = same-number (c .before .before .rows-to-10 .ensures) (c .if1 .left)
 
 -- rows 12 and 24
-rest : (c : tie.After-first) → let s = start (c .before .before .before .before .before .before) in
+rest : (c : tie.After-first) → let s = start (c .before .before .before .before .before) in
     c .first .result ≡ (row12Held (windOf (s .args .clock)) then row24 (N (net s)) (s .args .text .now))
 unfolding row24
-rest c =
-    let w = c .before .before in
-    c .first .ensures ∙ (λ i. (c .before .held-wind .ensures ∙ ap row12Held (w .wind .ensures)) i then w .before .tested .ensures i)
+rest c = c .first .ensures ∙ (λ i. c .before .held-wind .ensures i then c .before .before .tested .ensures i)
 
 rows-to-10-requires : tie.Need-rows-to-10-requires
 rows-to-10-requires c κs = search needs
@@ -47,9 +45,6 @@ add-room c = omega (arith, few _ _ _ (passed c))
 tested-requires : tie.Need-tested-requires
 tested-requires c κs = search needs
 
-wind-requires : tie.Need-wind-requires
-wind-requires c κs = search needs
-
 held-wind-requires : tie.Need-held-wind-requires
 held-wind-requires c κs = search needs
 
@@ -59,12 +54,12 @@ first-requires c κs = search needs
 returns-2 : tie.Need-returns-2
 returns-2 c =
     let f = c .before .before in
-    stopped-after _ _ _ _ _ (passed (f .before .before .before .before)) _ (rest f) (c .if2 .taken)
+    stopped-after _ _ _ _ _ (passed (f .before .before .before)) _ (rest f) (c .if2 .taken)
 
 write-requires : tie.Need-write-requires
 write-requires c κs =
     let f = c .before .before .before in
-    let e = f .before .before .before .before in
+    let e = f .before .before .before in
     let ok = passed e in
     (few _ _ _ ok, state-long _ _ _ ok, roomy _ _ _ (start (e .before .before) .args .clock) _ ok _ (rest f) (c .before .if2 .left))
 
@@ -77,7 +72,7 @@ returns-3 c =
     let w = c .before .before in
     let e = w .before .before in
     let f = e .before .before in
-    saved _ _ _ _ _ (passed (f .before .before .before .before)) _ (rest f) (e .if2 .left) refl (w .write .ensures)
+    saved _ _ _ _ _ (passed (f .before .before .before)) _ (rest f) (e .if2 .left) refl (w .write .ensures)
 
 pub save-spec : {M : Type 1} → statement M
 save-spec =
@@ -88,7 +83,6 @@ save-spec =
     mul-room
     add-room
     tested-requires
-    wind-requires
     held-wind-requires
     first-requires
     returns-2

@@ -1,6 +1,7 @@
 use mathlib.Core.Path.{ap, _∙_}
 use Rattle.lists.specs.Scan.{_then_}
 use Rattle.limits.specs.Limits.{row12Held}
+use Rattle.surge.specs.declared.Clock.{Clock}
 use Rattle.surge.specs.State.{windOf}
 use borrow.Author.Needs.{needs}
 use Rattle.saves.proofs.loading.text_rows.Statement.{statement}
@@ -24,9 +25,6 @@ tested-requires c κs = search needs
 clock-of-requires : tie.Need-clock-of-requires
 clock-of-requires c κs = search needs
 
-wind-requires : tie.Need-wind-requires
-wind-requires c κs = search needs
-
 held-wind-requires : tie.Need-held-wind-requires
 held-wind-requires c κs = search needs
 
@@ -46,8 +44,8 @@ returns : tie.Need-returns
 returns c =
     let q = c .before .before .before in
     let w = q .before in
-    let o = w .before .before .before in
-    let held = w .held-wind .ensures ∙ ap row12Held (w .before .wind .ensures ∙ ap windOf (w .before .before .clock-of .ensures)) in
+    let o = w .before .before in
+    let held = w .held-wind .ensures ∙ ap (λ (k : Clock). row12Held (windOf k)) (w .before .clock-of .ensures) in
     let last = c .before .before .first .ensures ∙ (λ i. held i then q .bounds .ensures i) in
     let rest = c .before .first2 .ensures ∙ (λ i. o .tested .ensures i then last i) in
     c .first3 .ensures ∙ (λ i. o .before .lines .ensures i then rest i)
@@ -62,7 +60,6 @@ text-rows-spec =
     add-tested-2
     tested-requires
     clock-of-requires
-    wind-requires
     held-wind-requires
     bounds-requires
     first-requires
