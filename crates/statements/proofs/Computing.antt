@@ -37,7 +37,7 @@ unfolding z* Hi qx qy mean slope means Jx Jy corner shares L z′ H H′ r p m q
 the-formulas = tt
 
 unfoldable pub the-equations : Unit {0}
-unfolding area floats riseOf flowOf sharesAt rise slopeX slopeY flowAt nextState row13Level speedOf row13Flow row13 advance
+unfolding sides area floats riseOf flowOf sharesAt rise slopeX slopeY flowAt nextState row13Level speedOf row13Flow row13 advance
 the-equations = tt
 
 unfoldable pub the-frames : Unit {0}
