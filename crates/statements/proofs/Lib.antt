@@ -2,3 +2,4 @@ pub mod Outcomes
 pub mod Computing
 pub mod Holds
 pub mod ComputedProof
+pub mod Demand1Holds

@@ -1,3 +1,4 @@
 pub mod Determined
 pub mod Examples
 pub mod Computed
+pub mod Demand1
