@@ -3,3 +3,4 @@ pub mod Computing
 pub mod Holds
 pub mod ComputedProof
 pub mod Demand1Holds
+pub mod RoundTripHolds

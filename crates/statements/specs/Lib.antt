@@ -2,3 +2,4 @@ pub mod Determined
 pub mod Examples
 pub mod Computed
 pub mod Demand1
+pub mod RoundTrip
