@@ -1,30 +1,28 @@
 -- What an accepted load gives is accepted by a save, and so it is saved and loaded again.
-use Prim.Native.Nat.{ℕ, suc, _+_, _*_, _<_, _≤_}
-use mathlib.Core.Path.{_≡_, refl, sym, ap, subst, _∙_}
+use Prim.Native.Nat.{ℕ, _*_, _<_, _≤_}
+use mathlib.Core.Path.{_≡_, refl, sym, subst, _∙_}
 use mathlib.Core.Bool.{Bool, true, false, _&&_}
 use mathlib.Core.List.{List, [], _∷_}
-use native.Mathlib.Omega.{arith}
 use borrow.Author.Tests.{eqb-true, eq-eqb, le-leb}
 use lib.Dec.{eqb, lit<}
 use lib.ListN.{length, getD, take}
 use lib.Ieee.{Float, nan}
 use Rattle.lists.specs.declared.rows.Answer.{Answer}
 use Rattle.lists.specs.Table.{table}
-use Rattle.lists.specs.Runs.{Even, isRuns, room}
-use Rattle.lists.specs.Scan.{accepted, row, _then_, scan}
+use Rattle.lists.specs.Runs.{Even, isRuns}
+use Rattle.lists.specs.Scan.{accepted}
 use Rattle.lists.proofs.ScanLaws.{row-holds, then-first, then-rest, then-next, scan-none, scan-clean, same-number}
 use Rattle.lists.proofs.TableLaws.{length-table, getD-table}
 use Rattle.lists.proofs.RunLaws.{room-read}
 use Rattle.equations.specs.declared.Parameters.{Parameters}
-use Rattle.equations.specs.declared.Node.{Node}
 use Rattle.surge.specs.declared.Clock.{Clock}
 use Rattle.surge.specs.Lent.{Mesh, N, E, After, after}
 use Rattle.surge.specs.Rows.{rows1to9}
-use Rattle.surge.specs.State.{nodeOf, inRun, inBounds, row10, rows1to10, row12Held}
+use Rattle.surge.specs.State.{nodeOf, inRun, row10, rows1to10}
 use Rattle.surge.proofs.AcceptedLaws.{accepted as all-accepted, accepted-rooms}
-use Rattle.saves.specs.Held.{HeldState, HeldClock}
+use Rattle.saves.specs.Held.{HeldState}
 use Rattle.saves.specs.Lines.{saveLength}
-use Rattle.saves.specs.Save.{SaveOut, row24, saveAnswer, saveOf, wrote}
+use Rattle.saves.specs.Save.{row24, saveAnswer, saveOf, wrote}
 use Rattle.saves.specs.Load.{clockOf, loadedNode, row10Read, textRows, loadAnswer, loadedState, loadOf}
 use Rattle.saves.proofs.OwnLaws.{saved-loaded}
 use Rattle.saves.proofs.HeldLaws.{clock-held, state-held}
@@ -95,6 +93,13 @@ module _ (m : Mesh) (p : Parameters) (t : List ℕ) (state : List Float) (ok : l
       then-next _ _ to-10 ∙ then-next _ _ (then-first _ _ (then-rest _ _ (then-rest _ _ text-fine))) ∙ row-holds 24 _ (le-leb _ _ enough)
 
 -- ---- saved, and loaded again
+-- the run that a load leaves is saved into a text, and that is loaded over another run and gives it back
+abbrev Again : Mesh → Parameters → List ℕ → List Float → Clock → After → Type 0
+Again m p text old other o =
+    let s = saveOf m p (o .state) (o .reply .clock) text in
+    (s .answer ≡ wrote (saveLength (N m)))
+    × (loadOf m p (take (s .answer .place) (s .text)) old other ≡ after (record { answer = accepted; clock = o .reply .clock }) (o .state))
+
 module _ (m : Mesh) (p : Parameters) (t : List ℕ) (state : List Float) (k : Clock) (done : loadOf m p t state k .reply .answer .number ≡ 0) where
   answered : loadAnswer m p t state .number ≡ 0
   unfolding loadOf
@@ -104,8 +109,11 @@ module _ (m : Mesh) (p : Parameters) (t : List ℕ) (state : List Float) (k : Cl
       go true q = eqb-true _ _ q
       go false q = rw q at done
 
-  gave : loadOf m p t state k ≡ after (record { answer = loadAnswer m p t state; clock = clockOf (N m) t }) (loadedState (m .h) t)
-  unfolding loadOf
+  loaded : After
+  loaded = after (record { answer = loadAnswer m p t state; clock = clockOf (N m) t }) (loadedState (m .h) t)
+
+  gave : loadOf m p t state k ≡ loaded
+  unfolding loadOf loaded
   gave = rw (eq-eqb _ _ answered)
 
   module _ (text : List ℕ) (enough : saveLength (N m) ≤ length text) where
@@ -113,16 +121,14 @@ module _ (m : Mesh) (p : Parameters) (t : List ℕ) (state : List Float) (k : Cl
     unfolding saveOf
     saves = rw (eq-eqb _ _ (passed (save-fine m p t state answered text enough)))
 
-    again : (old : List Float) (other : Clock) → length old ≡ 4 * N m → (o : After) → o ≡ after (record { answer = loadAnswer m p t state; clock = clockOf (N m) t }) (loadedState (m .h) t)
-        → let s = saveOf m p (o .state) (o .reply .clock) text in
-        (s .answer ≡ wrote (saveLength (N m))) × (loadOf m p (take (s .answer .place) (s .text)) old other ≡ after (record { answer = accepted; clock = o .reply .clock }) (o .state))
-    again old other long o e =
-        rw e
-        (saves, saved-loaded m p (loadedState (m .h) t) (clockOf (N m) t) (its-state m p t state answered) (clock-held (N m) t) old long text (same-number (sym saves) refl) other)
+    loads : (old : List Float) (other : Clock) → length old ≡ 4 * N m → Again m p text old other loaded
+    unfolding loaded
+    loads old other long =
+        let fits = its-state m p t state answered in
+        (saves, saved-loaded m p (loadedState (m .h) t) (clockOf (N m) t) fits (clock-held (N m) t) old long text (same-number (sym saves) refl) other)
 
 pub loaded-again : (m : Mesh) (p : Parameters) (t : List ℕ) (state : List Float) (k : Clock) (text : List ℕ) (old : List Float) (other : Clock)
     → loadOf m p t state k .reply .answer .number ≡ 0 → saveLength (N m) ≤ length text → length old ≡ 4 * N m
-    → let o = loadOf m p t state k in
-    let s = saveOf m p (o .state) (o .reply .clock) text in
-    (s .answer ≡ wrote (saveLength (N m))) × (loadOf m p (take (s .answer .place) (s .text)) old other ≡ after (record { answer = accepted; clock = o .reply .clock }) (o .state))
-loaded-again m p t state k text old other done enough long = again m p t state k done text enough old other long _ (gave m p t state k done)
+    → Again m p text old other (loadOf m p t state k)
+loaded-again m p t state k text old other done enough long =
+    subst (Again m p text old other) (sym (gave m p t state k done)) (loads m p t state k done text enough old other long)

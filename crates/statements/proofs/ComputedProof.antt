@@ -1,24 +1,21 @@
 -- The history on mesh T is as its table says, by computation: each run in numbers, and each call worked out from the run before it.
-use Prim.Native.Nat.{ℕ}
 use mathlib.Core.Path.{_≡_, refl, sym, ap, _∙_}
 use mathlib.Core.Bool.{true, false}
 use mathlib.Core.List.{List, [], _∷_, _++_}
-use lib.IntN.{pos, negsuc}
+use lib.IntN.{negsuc}
 use lib.ListN.{replicate, take, getD}
 use lib.Ieee.{Float, fin, nan}
 use Rattle.lists.specs.declared.rows.Answer.{Answer}
 use Rattle.lists.specs.Table.{table}
 use Rattle.lists.specs.Scan.{plus0, accepted, refused, decimal}
-use Rattle.surge.specs.declared.Clock.{Clock}
-use Rattle.surge.specs.declared.Forcing.{Forcing}
 use Rattle.surge.specs.Lent.{coldState, coldClock, After, after}
 use Rattle.surge.specs.Open.{openOf}
-use Rattle.surge.specs.Step.{Held, StepOut, stepOut, given, advance, stepOf}
+use Rattle.surge.specs.Step.{Held, StepOut, stepOut}
 use Rattle.saves.specs.Lines.{bits}
-use Rattle.saves.specs.Save.{SaveOut, saveOf, wrote}
+use Rattle.saves.specs.Save.{saveOf, wrote}
 use Rattle.saves.specs.Load.{loadOf}
 use Rattle.saves.specs.Forcings.{still}
-use Rattle.statements.specs.Examples.{Outcome, stepped, run, count, T, T-parameters, T-rooms}
+use Rattle.statements.specs.Examples.{Outcome, run, count, T, T-parameters, T-rooms}
 use Rattle.statements.specs.Computed.{east, north, flood, left, step, taken, kept, along, cold, line}
 use Rattle.statements.specs.Computed.{call1, run1, call2, run2, call3, run3, call4, saved, call5, run5, call6, run6, call7, run7, computed, ComputedHolds}
 use Rattle.statements.proofs.Computing.{arithmetic, tables, the-rows, the-formulas, the-equations, the-frames, the-calls}

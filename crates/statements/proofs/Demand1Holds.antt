@@ -1,7 +1,7 @@
 -- Demand 1 holds of each call.
-use Prim.Native.Nat.{ℕ, _<_}
+use Prim.Native.Nat.{ℕ}
 use mathlib.Core.Path.{_≡_, refl, sym, subst}
-use mathlib.Core.Bool.{Bool, true, false, cond}
+use mathlib.Core.Bool.{Bool, true, false}
 use mathlib.Core.List.{List}
 use native.Mathlib.Omega.{arith}
 use borrow.Author.Tests.{eqb-true, eqb-false, eq-eqb, ne-eqb}
@@ -10,12 +10,11 @@ use lib.Ieee.{Float}
 use Rattle.lists.specs.declared.rows.Answer.{Answer}
 use Rattle.lists.proofs.ScanLaws.{then-stop, then-next}
 use Rattle.equations.specs.declared.Parameters.{Parameters}
-use Rattle.frames.specs.Reading.{fault}
 use Rattle.surge.specs.declared.Clock.{Clock}
 use Rattle.surge.specs.Lent.{Mesh, N}
-use Rattle.surge.specs.Open.{openAnswer, openOf}
+use Rattle.surge.specs.Open.{openOf}
 use Rattle.surge.specs.Step.{Given, seaOf, before13, row13, Rooms, roomy, refusedBefore, refusedBy13, wentOn, stepsTo, stepOf}
-use Rattle.saves.specs.Save.{saveAnswer, saveOf}
+use Rattle.saves.specs.Save.{saveOf}
 use Rattle.saves.specs.Load.{loadAnswer, loadOf}
 use Rattle.saves.specs.Forcings.{takenOf}
 use Rattle.statements.specs.Demand1.{Accepts, Refuses, OpenSays, StepSays, SaveSays, LoadSays, ForcingSays}
@@ -86,7 +85,7 @@ module _ (g : Given) (r : Rooms) where
 
 save-says : (m : Mesh) (p : Parameters) (state : List Float) (k : Clock) (t : List ℕ) → SaveSays m p state k t (saveOf m p state k t)
 unfolding saveOf
-save-says m p state k t = record { refused = λ h. rw (ne-eqb _ _ h) (refl, refl); accepted = λ h. rw (eq-eqb _ _ h) }
+save-says m p state k t = record { refused = λ h. rw (ne-eqb _ _ h) (refl, refl); accepted = λ h. rw (eq-eqb _ _ h) (refl, refl) }
 
 load-says : (m : Mesh) (p : Parameters) (t : List ℕ) (state : List Float) (k : Clock) → LoadSays m p t state k (loadOf m p t state k)
 unfolding loadOf

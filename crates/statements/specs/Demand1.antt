@@ -2,10 +2,11 @@
 -- an outcome; one statement for each call says it of every outcome that meets the function's own contract, as it is read from the source.
 use Prim.Native.Nat.{ℕ, _*_}
 use mathlib.Core.Path.{_≡_}
-use mathlib.Core.List.{List}
+use mathlib.Core.List.{List, _++_}
 use contract.Lifetimes.{Lfts}
 use borrow.Fn.Kinds.{PK, RK, Out, Dens, resT, endedOf}
 use denote.Triple.Clauses.{Lasts, atExit}
+use lib.ListN.{drop}
 use lib.Ieee.{Float}
 use Rattle.lists.specs.declared.rows.Answer.{Answer}
 use Rattle.lists.specs.Table.{table, zeros}
@@ -13,13 +14,12 @@ use Rattle.lists.specs.Scan.{_then_}
 use Rattle.equations.specs.declared.Parameters.{Parameters}
 use Rattle.frames.specs.Reading.{fault}
 use Rattle.surge.specs.declared.Clock.{Clock}
-use Rattle.surge.specs.declared.Reply.{Reply}
-use Rattle.surge.specs.Lent.{Mesh, mesh, N, coldState, coldClock, After, after}
+use Rattle.surge.specs.Lent.{Mesh, mesh, N, E, coldState, coldClock, After, after}
 use Rattle.surge.specs.Open.{openAnswer}
 use Rattle.surge.specs.Step.{Given, given, seaOf, before13, row13, Rooms, lentRooms, roomy, StepOut, stepOut}
 use Rattle.saves.specs.declared.Taken.{Taken}
 use Rattle.saves.specs.Lines.{saveLength}
-use Rattle.saves.specs.Save.{saveAnswer, SaveOut, saveOut, wrote}
+use Rattle.saves.specs.Save.{saveText, saveAnswer, SaveOut, saveOut, wrote}
 use Rattle.saves.specs.Load.{loadAnswer}
 use Rattle.saves.specs.Forcings.{still}
 use Rattle.surge.proofs.open.Kinds as open-kinds
@@ -69,10 +69,11 @@ pub record StepSays (g : Given) (r : Rooms) (o : StepOut) : Type 0 where
   pub by-13 : o .reply .answer .number ≡ 13 → AllZero (N (g .mesh)) (o .rooms)
   pub accepted : Accepts (o .reply .answer) → AllZero (N (g .mesh)) (o .rooms)
 
--- save: the rows' answer with the text as found, or where they accept number 0 and place 70+73N
+-- save: the rows' answer with the text as found; or, where they accept, number 0 and place 70+73N, and "Text room past a save keeps its bytes"
 pub record SaveSays (m : Mesh) (p : Parameters) (state : List Float) (k : Clock) (t : List ℕ) (o : SaveOut) : Type 0 where
   pub refused : Refuses (saveAnswer m p state k t) → (o .answer ≡ saveAnswer m p state k t) × (o .text ≡ t)
-  pub accepted : Accepts (saveAnswer m p state k t) → o .answer ≡ wrote (saveLength (N m))
+  pub accepted : Accepts (saveAnswer m p state k t)
+      → (o .answer ≡ wrote (saveLength (N m))) × (o .text ≡ saveText (N m) (E m) state k ++ drop (saveLength (N m)) t)
 
 -- load: a refusal leaves state and clock as found
 pub record LoadSays (m : Mesh) (p : Parameters) (t : List ℕ) (state : List Float) (k : Clock) (o : After) : Type 0 where

@@ -14,9 +14,7 @@ use Rattle.frames.specs.Frames.{text}
 use Rattle.surge.specs.Lent.{Mesh, mesh, N, corners, coldState, coldClock}
 use Rattle.surge.specs.Geometry.{sides, D}
 use Rattle.surge.specs.Open.{openAnswer}
-use Rattle.surge.specs.declared.Clock.{Clock}
-use Rattle.surge.specs.declared.Forcing.{Forcing}
-use Rattle.surge.specs.Step.{Held, StepOut, given, Rooms, lentRooms, stepOf}
+use Rattle.surge.specs.Step.{Held, given, Rooms, lentRooms, stepOf}
 use Rattle.saves.specs.Lines.{head, end}
 use Rattle.saves.specs.Save.{linesTo, saveText}
 use Rattle.saves.specs.Load.{loadAnswer}
@@ -50,6 +48,7 @@ T-x x = pos 0 ∷ pos x ∷ pos 0 ∷ []
 abbrev pub T-y : List ℤ
 T-y = pos 0 ∷ pos 0 ∷ pos 100 ∷ []
 
+-- T itself
 abbrev pub T : Mesh
 T = like-T (T-x 100) T-y (0 ∷ 1 ∷ 2 ∷ [])
 

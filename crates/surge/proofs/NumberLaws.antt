@@ -5,7 +5,6 @@ use mathlib.Core.Bool.{Bool, true, false}
 use mathlib.Core.List.{List}
 use native.Mathlib.Omega.{arith}
 use lib.Dec.{lit<}
-use lib.Ieee.{Float}
 use Rattle.lists.specs.declared.rows.Answer.{Answer}
 use Rattle.lists.specs.Scan.{row, _then_, scan}
 use Rattle.lists.proofs.ScanLaws.{then-stop, then-next}
