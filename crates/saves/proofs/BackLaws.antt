@@ -1,5 +1,5 @@
 -- The way back, line by line: what is read of a save's text is what was written.
-use Prim.Native.Nat.{ℕ, zero, suc, _+_, _*_, _^_, _<_, _≤_}
+use Prim.Native.Nat.{ℕ, zero, suc, _+_, _*_, _<_, _≤_}
 use mathlib.Core.Path.{_≡_, refl, ap, _∙_}
 use mathlib.Core.Bool.{Bool, true, false, cond, _||_}
 use mathlib.Core.List.{List, _++_, append-assoc}
@@ -20,6 +20,7 @@ use Rattle.frames.proofs.PatternLaws.{pattern-fits, float-back}
 use Rattle.surge.specs.declared.Clock.{Clock}
 use Rattle.surge.specs.State.{nodeOf}
 use Rattle.saves.specs.Lines.{head, stateValues, nodeLine, end, due, dueKind, bits}
+use Rattle.saves.specs.Held.{HeldClock, HeldState}
 use Rattle.saves.specs.Save.{lineOf, linesTo, saveText}
 use Rattle.saves.specs.Load.{lineAt, float, row23, lineRows, clockOf, loadedNode}
 use Rattle.saves.proofs.LineLaws.{line-long, lines-long}
@@ -77,17 +78,6 @@ module _ (n e : ℕ) (state : List Float) (k : Clock) where
       lines-fine rest j h = rw (line-back rest j h, fault-fine j h) (then-next accepted _ refl ∙ counts-same j h)
 
 -- ---- a run whose numbers a save's fields can hold
--- a step of 4 bytes and two binary64 values
-pub record HeldClock (k : Clock) : Type 0 where
-  pub step : k .step < 256 ^ 4
-  pub wx : T (fits binary64 (k .wx))
-  pub wy : T (fits binary64 (k .wy))
-
--- four runs of n binary64 values
-pub record HeldState (n : ℕ) (state : List Float) : Type 0 where
-  pub long : length state ≡ 4 * n
-  pub values : (j : ℕ) → j < length state → T (fits binary64 (getD state j nan))
-
 -- a value whose pattern is read is read back
 pattern-read : (x : Float) {p : ℕ} → T (fits binary64 x) → p ≡ bits x → ofBits binary64 p ≡ x
 pattern-read x h q = ap (ofBits binary64) q ∙ float-back x h

@@ -13,8 +13,8 @@ use Rattle.lists.proofs.TableLaws.{length-table}
 use Rattle.lists.proofs.RunLaws.{room-length}
 use Rattle.frames.proofs.BackLaws.{value-small}
 use Rattle.surge.specs.Lent.{coldState, coldClock}
+use Rattle.saves.specs.Held.{HeldClock, HeldState}
 use Rattle.saves.specs.Load.{lineAt, float, clockOf, loadedNode, loadedState}
-use Rattle.saves.proofs.BackLaws.{HeldClock, HeldState}
 
 -- each value of a list is a binary64; past its end it is NaN
 abbrev AllFit : List Float → Type 0

@@ -26,11 +26,12 @@ use Rattle.limits.specs.Limits.{inBounds, row12Held}
 use Rattle.surge.specs.State.{inRun, nodeOf, row10, rows1to10, windOf}
 use Rattle.surge.specs.Accepted.{Sized}
 use Rattle.surge.proofs.AcceptedLaws.{accepted as all-accepted}
+use Rattle.saves.specs.Held.{HeldClock, HeldState}
 use Rattle.saves.specs.Lines.{saveLength}
 use Rattle.saves.specs.Save.{saveText, saveAnswer, saveOf}
 use Rattle.saves.specs.Load.{lineRows, clockOf, loadedNode, loadAnswer, loadedState, loadOf}
 use Rattle.saves.proofs.LineLaws.{lines-long, save-long}
-use Rattle.saves.proofs.BackLaws.{HeldClock, HeldState, lines-fine, clock-back, node-back}
+use Rattle.saves.proofs.BackLaws.{lines-fine, clock-back, node-back}
 
 -- run j of a list of four runs, place by place
 run-table : (n j : ℕ) (l : List Float) → suc j * n ≤ length l → run n j l ≡ table n (λ i. inRun n j l i)

@@ -2,3 +2,4 @@ pub mod Lines
 pub mod Save
 pub mod Load
 pub mod Forcings
+pub mod Held

@@ -1,2 +1,6 @@
 pub mod Outcomes
+pub mod Computing
 pub mod Holds
+pub mod ComputedProof
+pub mod Demand1Holds
+pub mod RoundTripHolds

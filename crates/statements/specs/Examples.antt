@@ -5,7 +5,8 @@ use mathlib.Core.List.{List, [], _∷_, _++_, map}
 use lib.IntN.{ℤ, pos, negsuc}
 use lib.ListN.{length, replicate}
 use Rattle.lists.specs.declared.rows.Answer.{Answer}
-use Rattle.lists.specs.Scan.{accepted, refused, decimal}
+use Rattle.lists.specs.Table.{table, zeros}
+use Rattle.lists.specs.Scan.{plus0, accepted, refused, decimal}
 use Rattle.equations.specs.declared.Parameters.{Parameters}
 use Rattle.surge.specs.declared.mesh.geometry.WholeSides.{WholeSides}
 use Rattle.frames.specs.Bytes.{bytes, sum}
@@ -13,15 +14,20 @@ use Rattle.frames.specs.Frames.{text}
 use Rattle.surge.specs.Lent.{Mesh, mesh, N, corners, coldState, coldClock}
 use Rattle.surge.specs.Geometry.{sides, D}
 use Rattle.surge.specs.Open.{openAnswer}
+use Rattle.surge.specs.Step.{Held, given, Rooms, lentRooms, stepOf}
 use Rattle.saves.specs.Lines.{head, end}
 use Rattle.saves.specs.Save.{linesTo, saveText}
 use Rattle.saves.specs.Load.{loadAnswer}
+use Rattle.saves.specs.Forcings.{still}
 
--- what an example speaks of: the a, b and D of a triangle, the whole answer of a call (number, place and value), a count, or a text
+-- what an example speaks of: the a, b and D of a triangle, the whole answer of a call (number, place and value), a count, an answer with the
+-- step number of the clock that is held after it, a run, or a text
 pub data Outcome : Type 0 where
   triangle : WholeSides → ℤ → Outcome
   answer : Answer → Outcome
   count : ℕ → Outcome
+  stepped : Answer → ℕ → Outcome
+  run : Held → Outcome
   characters : List ℕ → Outcome
 
 pub record Example : Type 0 where
@@ -42,6 +48,14 @@ T-x x = pos 0 ∷ pos x ∷ pos 0 ∷ []
 abbrev pub T-y : List ℤ
 T-y = pos 0 ∷ pos 0 ∷ pos 100 ∷ []
 
+-- T itself
+abbrev pub T : Mesh
+T = like-T (T-x 100) T-y (0 ∷ 1 ∷ 2 ∷ [])
+
+-- T's next state and work room: "4N", "3N binary64 and N 64-bit unsigned"
+abbrev pub T-rooms : Rooms
+T-rooms = lentRooms (zeros 12) (zeros 9) (table 3 (λ _. 0))
+
 abbrev pub geometry : Mesh → Outcome
 geometry m = let s = sides (m .x) (m .y) (corners (m .tri) 0) in triangle s (D s)
 
@@ -59,7 +73,13 @@ end-with sequence check = 48 ∷ 51 ∷ 48 ∷ 48 ∷ 48 ∷ sequence ∷ 48 ∷
 
 -- what loading a text on T answers, with a state of 4N
 abbrev pub loading : List ℕ → Outcome
-loading t = answer (loadAnswer (like-T (T-x 100) T-y (0 ∷ 1 ∷ 2 ∷ [])) T-parameters t (coldState 3))
+loading t = answer (loadAnswer T T-parameters t (coldState 3))
+
+-- a whole step on T, from the cold state with the clock at this step number, with a forcing of three +0
+abbrev pub stepping : ℕ → Outcome
+stepping number =
+    let o = stepOf (given T T-parameters (coldState 3) (record { step = number; wx = plus0; wy = plus0 }) still) T-rooms in
+    stepped (o .reply .answer) (o .reply .clock .step)
 
 abbrev pub example : Outcome → Outcome → Example
 example g s = record { gives = g; says = s }
@@ -67,10 +87,10 @@ example g s = record { gives = g; says = s }
 unfoldable pub examples : List Example
 examples =
     -- 1. "T has a = -100, 0, 100; b = -100, 100, 0; D = 10,000."
-    example (geometry (like-T (T-x 100) T-y (0 ∷ 1 ∷ 2 ∷ [])))
+    example (geometry T)
     (triangle (record { a1 = negsuc 99; a2 = pos 0; a3 = pos 100; b1 = negsuc 99; b2 = pos 100; b3 = pos 0 }) (pos 10000))
     -- T itself is accepted
-    ∷ example (opening (like-T (T-x 100) T-y (0 ∷ 1 ∷ 2 ∷ []))) (answer accepted)
+    ∷ example (opening T) (answer accepted)
     -- 2. "triangle 0 2 1 on T: 5."
     ∷ example (opening (like-T (T-x 100) T-y (0 ∷ 2 ∷ 1 ∷ []))) (answer (refused 5 0))
     -- 3. "triangle 0 1 1: 5."
@@ -96,6 +116,9 @@ examples =
     ∷ example (loading (linesTo 3 1 (coldState 3) coldClock 4 ++ end-with 53 53)) (answer (refused 22 4))
     -- with sequence 4 and check F6 it is accepted
     ∷ example (loading (linesTo 3 1 (coldState 3) coldClock 4 ++ end-with 52 54)) (answer accepted)
+    -- 11. "step 4,294,967,294 may step, the next may not."
+    ∷ example (stepping 4294967294) (stepped accepted 4294967295)
+    ∷ example (stepping 4294967295) (stepped (refused 11 0) 4294967295)
     -- 12. "save length 289 at N 3."
     ∷ example (count (length (saveText 3 1 (coldState 3) coldClock))) (count 289)
     ∷ []

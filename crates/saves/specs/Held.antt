@@ -1,0 +1,19 @@
+-- A run whose numbers the fields of a save can hold. Every u32 and every f64 of a program is such a number: a definition's floats could also be others.
+use Prim.Native.Nat.{ℕ, _*_, _^_, _<_}
+use mathlib.Core.Path.{_≡_}
+use mathlib.Core.List.{List}
+use lib.Dec.{T}
+use lib.ListN.{length, getD}
+use lib.Ieee.{Float, nan, binary64, fits}
+use Rattle.surge.specs.declared.Clock.{Clock}
+
+-- a step of 4 bytes and two binary64 values
+pub record HeldClock (k : Clock) : Type 0 where
+  pub step : k .step < 256 ^ 4
+  pub wx : T (fits binary64 (k .wx))
+  pub wy : T (fits binary64 (k .wy))
+
+-- four runs of n binary64 values
+pub record HeldState (n : ℕ) (state : List Float) : Type 0 where
+  pub long : length state ≡ 4 * n
+  pub values : (j : ℕ) → j < length state → T (fits binary64 (getD state j nan))

@@ -1,0 +1,50 @@
+-- What a proof by computation looks through, in groups: each name below opens all that its line names.
+use lib.Ieee.{le, lt, eq, round, toBits, ofBits, add, sub, mul, div, neg, ofInt}
+use Rattle.lists.specs.Table.{table}
+use Rattle.lists.specs.Runs.{room}
+use Rattle.lists.specs.Scan.{row, _then_, scan, some, within, decimal, minus}
+use Rattle.lists.specs.Gather.{joined, gathered}
+use Rattle.equations.specs.Elevation.{z*, H as Hi, qx, qy, mean, slope, means, Jx, Jy, corner, shares, L, z′}
+use Rattle.equations.specs.Velocity.{H, H′, r, p, m, q, gx, gy, wx, wy, Rx, Ry, n, U′, V′, flow}
+use Rattle.equations.specs.Outcomes.{level, speed}
+use Rattle.frames.specs.Bytes.{digit, digits, byte, bytes, worth, allDigits, field, number, sum, check}
+use Rattle.frames.specs.Frames.{text, fieldBytes, checked, fieldsOf}
+use Rattle.frames.specs.Reading.{value, isFramed, row20, row21, row22, fault}
+use Rattle.limits.specs.Limits.{isSound, row9, inBounds, row11, row12Held, row12New}
+use Rattle.surge.specs.Geometry.{sides, allNear, area, floats}
+use Rattle.surge.specs.Rows.{row1, row2, allBelow, row3, row4, row5, rows3to5, isLeg, row6, row6If, isNamed, row7, row8, rows1to9}
+use Rattle.surge.specs.Open.{openAnswer, openOf}
+use Rattle.surge.specs.State.{row10, rows1to10}
+use Rattle.surge.specs.Equations.{riseOf, flowOf, sharesAt, rise, slopeX, slopeY, flowAt, nextState}
+use Rattle.surge.specs.Step.{row13Level, speedOf, row13Flow, row13, advance, before13, stepsTo, stepOf}
+use Rattle.saves.specs.Lines.{startOf}
+use Rattle.saves.specs.Save.{lineOf, linesTo, row24, saveAnswer, saveOf}
+use Rattle.saves.specs.Load.{row23, lineRows, clockOf, loadedNode, loadAnswer, loadedState, loadOf}
+
+unfoldable pub arithmetic : Unit {0}
+unfolding round le lt eq add sub mul div neg ofInt toBits ofBits decimal minus within
+arithmetic = tt
+
+unfoldable pub tables : Unit {0}
+unfolding table room row _then_ scan some joined gathered
+tables = tt
+
+unfoldable pub the-rows : Unit {0}
+unfolding sides allNear row1 row2 allBelow row3 row4 row5 rows3to5 isLeg row6 row6If isNamed row7 isSound row8 row9 rows1to9 inBounds row10 rows1to10 row11 row12Held row12New
+the-rows = tt
+
+unfoldable pub the-formulas : Unit {0}
+unfolding z* Hi qx qy mean slope means Jx Jy corner shares L z′ H H′ r p m q gx gy wx wy Rx Ry n U′ V′ flow level speed
+the-formulas = tt
+
+unfoldable pub the-equations : Unit {0}
+unfolding sides area floats riseOf flowOf sharesAt rise slopeX slopeY flowAt nextState row13Level speedOf row13Flow row13 advance
+the-equations = tt
+
+unfoldable pub the-frames : Unit {0}
+unfolding digit digits byte bytes worth allDigits field number sum check text fieldBytes checked fieldsOf value isFramed row20 row21 row22 fault
+the-frames = tt
+
+unfoldable pub the-calls : Unit {0}
+unfolding openAnswer openOf before13 stepsTo stepOf startOf lineOf linesTo row24 saveAnswer saveOf row23 lineRows clockOf loadedNode loadAnswer loadedState loadOf
+the-calls = tt

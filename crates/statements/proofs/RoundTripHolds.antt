@@ -1,0 +1,11 @@
+-- The round trip holds.
+use Rattle.saves.proofs.OwnLaws.{saved-loaded, same-text}
+use Rattle.saves.proofs.AgainLaws.{loaded-again}
+use Rattle.statements.specs.RoundTrip.{RoundTrip}
+
+pub round-trip : RoundTrip
+round-trip = record {
+  saved-is-loaded = λ m p state k room old other s c long done. saved-loaded m p state k s c old long room done other;
+  same-text-same-run = same-text;
+  loaded-is-saved = loaded-again;
+}

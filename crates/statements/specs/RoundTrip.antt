@@ -1,0 +1,52 @@
+-- The round trip: a save and a load give back the run, bit by bit. Two floats are the same here where they have the same pattern (+0 is not -0, and all
+-- NaN are one); HeldState and HeldClock say of a run that its numbers are binary64 and its step number a u32, as every f64 and u32 of a program is.
+use Prim.Native.Nat.{ℕ, _*_, _≤_}
+use mathlib.Core.Path.{_≡_}
+use mathlib.Core.List.{List}
+use lib.ListN.{length, take}
+use lib.Ieee.{Float}
+use Rattle.lists.specs.Scan.{accepted}
+use Rattle.equations.specs.declared.Parameters.{Parameters}
+use Rattle.surge.specs.declared.Clock.{Clock}
+use Rattle.surge.specs.Lent.{Mesh, N, After, after}
+use Rattle.saves.specs.Lines.{saveLength}
+use Rattle.saves.specs.Save.{SaveOut, saveText, saveOf, wrote}
+use Rattle.saves.specs.Load.{loadOf}
+use Rattle.saves.specs.Held.{HeldState, HeldClock}
+use Rattle.statements.specs.Demand1.{Accepts}
+
+-- the text that a save wrote: as many bytes as its place says
+abbrev pub written : SaveOut → List ℕ
+written o = take (o .answer .place) (o .text)
+
+-- what a load leaves that gives this run
+abbrev pub gives : List Float → Clock → After
+gives state k = after (record { answer = accepted; clock = k }) state
+
+-- The text of an accepted save, loaded over any state of 4N and any clock, is accepted, and gives the state and the clock that were saved.
+abbrev pub SavedIsLoaded : Type 0
+SavedIsLoaded =
+    (m : Mesh) (p : Parameters) (state : List Float) (k : Clock) (room : List ℕ) (old : List Float) (other : Clock) →
+    HeldState (N m) state → HeldClock k → length old ≡ 4 * N m → Accepts (saveOf m p state k room .answer) →
+    loadOf m p (written (saveOf m p state k room)) old other ≡ gives state k
+
+-- Two runs on meshes of N nodes and E triangles that have the same text are the same run: a save leaves nothing out.
+abbrev pub SameTextSameRun : Type 0
+SameTextSameRun =
+    (n e : ℕ) (state₁ state₂ : List Float) (k₁ k₂ : Clock) →
+    HeldState n state₁ → HeldState n state₂ → HeldClock k₁ → HeldClock k₂ →
+    saveText n e state₁ k₁ ≡ saveText n e state₂ k₂ → (state₁ ≡ state₂) × (k₁ ≡ k₂)
+
+-- Whatever an accepted load gives, whoever wrote its text, is saved into any room of 70+73N or more, and loaded again.
+abbrev pub LoadedIsSaved : Type 0
+LoadedIsSaved =
+    (m : Mesh) (p : Parameters) (t : List ℕ) (state : List Float) (k : Clock) (room : List ℕ) (old : List Float) (other : Clock) →
+    Accepts (loadOf m p t state k .reply .answer) → saveLength (N m) ≤ length room → length old ≡ 4 * N m →
+    let run = loadOf m p t state k in
+    let save = saveOf m p (run .state) (run .reply .clock) room in
+    (save .answer ≡ wrote (saveLength (N m))) × (loadOf m p (written save) old other ≡ gives (run .state) (run .reply .clock))
+
+pub record RoundTrip : Type 0 where
+  pub saved-is-loaded : SavedIsLoaded
+  pub same-text-same-run : SameTextSameRun
+  pub loaded-is-saved : LoadedIsSaved
