@@ -8,3 +8,4 @@ pub mod LoadLaws
 pub mod BackLaws
 pub mod OwnLaws
 pub mod HeldLaws
+pub mod KeptLaws

@@ -1,2 +1,3 @@
 pub mod Outcomes
+pub mod Demand3Holds
 pub mod Holds

@@ -9,3 +9,4 @@ pub mod NodeLaws
 pub mod RoomLaws
 pub mod SolveLaws
 pub mod StepLaws
+pub mod KeptLaws
