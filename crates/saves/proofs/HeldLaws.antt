@@ -17,6 +17,7 @@ use Rattle.lists.proofs.TableLaws.{length-table}
 use Rattle.lists.proofs.RunLaws.{room-length}
 use Rattle.equations.specs.declared.Parameters.{Parameters}
 use Rattle.equations.specs.declared.Push.{Push}
+use Rattle.equations.specs.declared.Flow.{Flow}
 use Rattle.equations.specs.Elevation.{z′}
 use Rattle.equations.specs.Velocity.{flow, U′ as u′, V′ as v′}
 use Rattle.frames.proofs.BackLaws.{value-small}
@@ -80,7 +81,7 @@ flow-fit : (p : Parameters) (kind : ℕ) (x : Push) → T (fits binary64 (flowOf
 unfolding flowOf flow u′ v′ fits
 flow-fit p kind x = go (eqb kind 2)
   where
-    go : (b : Bool) → T (fits binary64 (cond b (record { u = plus0; v = plus0 }) (flow p x) .u)) × T (fits binary64 (cond b (record { u = plus0; v = plus0 }) (flow p x) .v))
+    go : (b : Bool) → let w : Flow = cond b (record { u = plus0; v = plus0 }) (flow p x) in T (fits binary64 (w .u)) × T (fits binary64 (w .v))
     go true = (tt, tt)
     go false = (div-fits binary64 _ _, div-fits binary64 _ _)
 

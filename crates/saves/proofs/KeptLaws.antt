@@ -21,13 +21,15 @@ use Rattle.saves.specs.Save.{row24, saveAnswer, saveOf}
 use Rattle.saves.specs.Load.{clockOf, loadedNode, loadAnswer, loadedState, loadOf}
 
 -- ---- a save: a run that passes rows 10 and 12, and room enough
-pub save-accepts : (m : Mesh) (p : Parameters) (state : List Float) (k : Clock) (t : List ℕ) → rows1to10 true m p state .number ≡ 0 → row12Held k .number ≡ 0
-    → saveLength (N m) ≤ length t → saveOf m p state k t .answer .number ≡ 0
-unfolding saveOf saveAnswer row24
-save-accepts m p state k t ok held l =
-    let a : saveAnswer m p state k t .number ≡ 0 =
-        ap (λ (x : Answer). x .number) (then-next _ _ ok ∙ then-next _ _ held ∙ row-holds 24 (saveLength (N m)) (le-leb _ _ l)) in
-    rw (eq-eqb _ _ a)
+module _ (m : Mesh) (p : Parameters) (state : List Float) (k : Clock) (t : List ℕ) (ok : rows1to10 true m p state .number ≡ 0)
+    (held : row12Held k .number ≡ 0) (l : saveLength (N m) ≤ length t) where
+  save-fine : saveAnswer m p state k t .number ≡ 0
+  unfolding saveAnswer row24
+  save-fine = ap (λ (a : Answer). a .number) (then-next _ _ ok ∙ then-next _ _ held ∙ row-holds 24 (saveLength (N m)) (le-leb _ _ l))
+
+  pub save-accepts : saveOf m p state k t .answer .number ≡ 0
+  unfolding saveOf
+  save-accepts = rw (eq-eqb _ _ save-fine)
 
 -- ---- a load
 clash : {A : Type 0} {b : Bool} → b ≡ true → b ≡ false → A

@@ -31,7 +31,7 @@ use Rattle.equations.specs.Outcomes.{inSize, level, speed, answerOf}
 use Rattle.surge.specs.declared.Forcing.{Forcing}
 use Rattle.surge.specs.Lent.{Mesh, N, coldState, coldClock}
 use Rattle.surge.specs.Rows.{row1, row6If, rows1to9}
-use Rattle.surge.specs.State.{nodeOf, inBounds, row10, rows1to10, row12Held, row12}
+use Rattle.surge.specs.State.{inRun, nodeOf, inBounds, row10, rows1to10, row12Held, row12}
 use Rattle.surge.specs.Equations.{Sea, count, node, rise, flowAt, U′, V′, nextState}
 use Rattle.surge.specs.Step.{Given, seaOf, row13Level, speedOf, row13Flow, row13, advance, before13, Rooms, roomy, wentOn, stepsTo, stepOf}
 use Rattle.surge.proofs.AcceptedLaws.{accepted, accepted-rooms}
@@ -41,18 +41,25 @@ use Rattle.surge.proofs.StateLaws.{bounds-held}
 clash : {A : Type 0} {b : Bool} → b ≡ true → b ≡ false → A
 clash p q = absurd (true≢false (sym p ∙ q))
 
-pub record WentOn (g : Given) (r : Rooms) : Type 0 where
-  pub first : before13 (roomy r (N (g .mesh))) g .number ≡ 0
-  pub last : row13 (seaOf g) (g .mesh .kind) (g .forcing) .number ≡ 0
-  pub out : stepOf g r ≡ wentOn g (row13 (seaOf g) (g .mesh .kind) (g .forcing))
-
 module _ (g : Given) (r : Rooms) where
-  -- number 0: rows 1 to 13 accepted, and the equations' state and clock came back
-  pub went-on : eqb (stepOf g r .reply .answer .number) 0 ≡ true → WentOn g r
+  -- the answer of rows 1 to 12, and row 13's
+  abbrev pub early : Answer
+  early = before13 (roomy r (N (g .mesh))) g
+
+  abbrev pub late : Answer
+  late = row13 (seaOf g) (g .mesh .kind) (g .forcing)
+
+  -- number 0: both accepted, and the equations' state and clock came back
+  pub record WentOn : Type 0 where
+    pub first : early .number ≡ 0
+    pub last : late .number ≡ 0
+    pub out : stepOf g r ≡ wentOn g late
+
+  pub went-on : eqb (stepOf g r .reply .answer .number) 0 ≡ true → WentOn
   unfolding stepOf stepsTo
-  went-on e = go (eqb (before13 (roomy r (N (g .mesh))) g .number) 0) refl (eqb (row13 (seaOf g) (g .mesh .kind) (g .forcing) .number) 0) refl
+  went-on e = go (eqb (early .number) 0) refl (eqb (late .number) 0) refl
     where
-      go : (a : Bool) → eqb (before13 (roomy r (N (g .mesh))) g .number) 0 ≡ a → (b : Bool) → eqb (row13 (seaOf g) (g .mesh .kind) (g .forcing) .number) 0 ≡ b → WentOn g r
+      go : (a : Bool) → eqb (early .number) 0 ≡ a → (b : Bool) → eqb (late .number) 0 ≡ b → WentOn
       go true p true q = record { first = eqb-true _ _ p; last = eqb-true _ _ q; out = rw (p, q) }
       go true p false q = clash (rw (p, q) at e) q
       go false p b q = clash (rw p at e) p
@@ -60,10 +67,9 @@ module _ (g : Given) (r : Rooms) where
   -- any other number: the clock came back as it was
   pub stayed : eqb (stepOf g r .reply .answer .number) 0 ≡ false → stepOf g r .reply .clock ≡ g .clock
   unfolding stepOf stepsTo
-  stayed e = go (eqb (before13 (roomy r (N (g .mesh))) g .number) 0) refl (eqb (row13 (seaOf g) (g .mesh .kind) (g .forcing) .number) 0) refl
+  stayed e = go (eqb (early .number) 0) refl (eqb (late .number) 0) refl
     where
-      go : (a : Bool) → eqb (before13 (roomy r (N (g .mesh))) g .number) 0 ≡ a → (b : Bool) → eqb (row13 (seaOf g) (g .mesh .kind) (g .forcing) .number) 0 ≡ b
-          → stepOf g r .reply .clock ≡ g .clock
+      go : (a : Bool) → eqb (early .number) 0 ≡ a → (b : Bool) → eqb (late .number) 0 ≡ b → stepOf g r .reply .clock ≡ g .clock
       go true p true q = clash q (rw (p, q) at e)
       go true p false q = rw (p, q)
       go false p b q = rw p
@@ -166,10 +172,11 @@ module _ (g : Given) (rooms : Bool) (first : before13 rooms g .number ≡ 0) (la
   next-node i l =
       let k : i < length (g .mesh .h) = rw depths l in
       let w = seaOf g in
-      let a = rise-passed w (g .mesh .kind) (g .forcing) last i k in
-      rw (four-tables (g .mesh .h) (λ j. node w j .z) (rise w (g .mesh .kind) (g .forcing)) (U′ w (g .mesh .kind) (g .forcing)) (V′ w (g .mesh .kind) (g .forcing)) i k)
-      (all-five _ (z-passed _ (old-node i l)) (a .0) (a .1)
-      (east-passed w (g .mesh .kind) (g .forcing) last i k) (north-passed w (g .mesh .kind) (g .forcing) last i k))
+      let kind = g .mesh .kind in
+      let f = g .forcing in
+      let a = rise-passed w kind f last i k in
+      rw (four-tables (g .mesh .h) (λ j. node w j .z) (rise w kind f) (U′ w kind f) (V′ w kind f) i k)
+      (all-five _ (z-passed _ (old-node i l)) (a .0) (a .1) (east-passed w kind f last i k) (north-passed w kind f last i k))
 
   -- the next state passes rows 1 to 10
   pub next-rows : rows1to10 true (g .mesh) (g .p) (advance g .state) .number ≡ 0
@@ -219,15 +226,17 @@ unfolding within decimal minus round size span climb units odd trailingZeros le 
 zero-small = (refl, refl)
 
 module _ (m : Mesh) (p : Parameters) (ok : rows1to9 true false m p .number ≡ 0) where
+  zero-at : (i k : ℕ) → k * length (m .h) + i < 4 * N m → inRun (length (m .h)) k (coldState (N m)) i ≡ plus0
+  zero-at i k b = getD-table (4 * N m) (λ _. plus0) (k * length (m .h) + i) nan b
+
   cold-node : (i : ℕ) → i < N m → inBounds (nodeOf (m .h) (coldState (N m)) i) ≡ true
   cold-node i l =
       let a = accepted _ _ _ _ ok in
       let q = a .sized .h in
-      let zero-at : (k : ℕ) → k * length (m .h) + i < 4 * N m → getD (coldState (N m)) (k * length (m .h) + i) nan ≡ plus0 = λ k b. getD-table (4 * N m) (λ _. plus0) _ nan b in
-      let z0 = zero-at 0 (omega (arith, q, l)) in
-      let z1 = zero-at 1 (omega (arith, q, l)) in
-      let z2 = zero-at 2 (omega (arith, q, l)) in
-      let z3 = zero-at 3 (omega (arith, q, l)) in
+      let z0 = zero-at i 0 (omega (arith, q, l)) in
+      let z1 = zero-at i 1 (omega (arith, q, l)) in
+      let z2 = zero-at i 2 (omega (arith, q, l)) in
+      let z3 = zero-at i 3 (omega (arith, q, l)) in
       rw (z0, z1, z2, z3) (all-five _ (zero-small .0) (zero-small .0) (deep-enough _ (a .nodes i l .depth)) (zero-small .1) (zero-small .1))
 
   pub cold-rows : rows1to10 true m p (coldState (N m)) .number ≡ 0
