@@ -1,18 +1,29 @@
--- What is loaded of any text can be saved again, and so can a cold start.
-use Prim.Native.Nat.{ℕ, zero, suc, _*_}
-use mathlib.Core.Path.{_≡_}
+-- What is loaded of any text can be saved again, and so can a cold start and what a step gives.
+use Prim.Native.Nat.{ℕ, zero, suc, _+_, _*_}
+use mathlib.Core.Path.{_≡_, refl, ap, _∙_}
+use mathlib.Core.Bool.{Bool, true, false, cond}
 use mathlib.Core.List.{List, [], _∷_, _++_}
-use lib.Dec.{T, lit<}
-use lib.ListN.{length, getD}
+use native.Mathlib.Omega.{arith}
+use borrow.Author.Tests.{ltb-true, ltb-false}
+use lib.Dec.{T, ltb, eqb, lit<}
+use lib.ListN.{length, getD, List·getD-eq-default}
 use lib.Ieee.{Float, nan, binary64, fits}
 use lib.Ieee.Bits.{ofBits-fits}
-use lib.Ieee.Fits.{nan-fits}
+use lib.Ieee.Fits.{nan-fits, add-fits, div-fits, cond-fits}
 use Rattle.lists.specs.Table.{table}
 use Rattle.lists.specs.Runs.{room}
+use Rattle.lists.specs.Scan.{plus0}
 use Rattle.lists.proofs.TableLaws.{length-table}
 use Rattle.lists.proofs.RunLaws.{room-length}
+use Rattle.equations.specs.declared.Parameters.{Parameters}
+use Rattle.equations.specs.declared.Push.{Push}
+use Rattle.equations.specs.declared.Flow.{Flow}
+use Rattle.equations.specs.Elevation.{z′}
+use Rattle.equations.specs.Velocity.{flow, U′ as u′, V′ as v′}
 use Rattle.frames.proofs.BackLaws.{value-small}
-use Rattle.surge.specs.Lent.{coldState, coldClock}
+use Rattle.surge.specs.Lent.{N, coldState, coldClock}
+use Rattle.surge.specs.Equations.{node, riseOf, rise, flowOf, flowAt, U′, V′, nextState}
+use Rattle.surge.specs.Step.{Given, seaOf, advance}
 use Rattle.saves.specs.Held.{HeldClock, HeldState}
 use Rattle.saves.specs.Load.{lineAt, float, clockOf, loadedNode, loadedState}
 
@@ -57,3 +68,47 @@ cold-clock-held = record { step = lit< tt; wx = tt; wy = tt }
 pub cold-state-held : (n : ℕ) → HeldState n (coldState n)
 unfolding fits
 cold-state-held n = record { long = length-table (4 * n) _; values = λ j _. table-fit (4 * n) _ (λ i. tt) j }
+
+-- ---- what the equations give of a run that can be saved, from a forcing of three binary64: a value of the run, of the forcing, or the result of an operation
+all-fit : (n : ℕ) (l : List Float) → HeldState n l → AllFit l
+all-fit n l s j = go (ltb j (length l)) refl
+  where
+    go : (b : Bool) → ltb j (length l) ≡ b → T (fits binary64 (getD l j nan))
+    go true q = s .values j (ltb-true j _ q)
+    go false q = rw (List·getD-eq-default l nan (ltb-false j _ q)) (nan-fits binary64)
+
+flow-fit : (p : Parameters) (kind : ℕ) (x : Push) → T (fits binary64 (flowOf p kind x .u)) × T (fits binary64 (flowOf p kind x .v))
+unfolding flowOf flow u′ v′ fits
+flow-fit p kind x = go (eqb kind 2)
+  where
+    go : (b : Bool) → let w : Flow = cond b (record { u = plus0; v = plus0 }) (flow p x) in T (fits binary64 (w .u)) × T (fits binary64 (w .v))
+    go true = (tt, tt)
+    go false = (div-fits binary64 _ _, div-fits binary64 _ _)
+
+module _ (g : Given) (f : T (fits binary64 (g .forcing .elevation))) where
+  rise-fit : (i : ℕ) → T (fits binary64 (rise (seaOf g) (g .mesh .kind) (g .forcing) i))
+  unfolding rise riseOf z′
+  rise-fit i = cond-fits binary64 (eqb (getD (g .mesh .kind) i 0) 1) _ _ f (add-fits binary64 _ _)
+
+  pub next-state-held : length (g .mesh .h) ≡ N (g .mesh) → HeldState (N (g .mesh)) (g .state) → HeldState (N (g .mesh)) (advance g .state)
+  unfolding advance nextState flowAt room
+  next-state-held q s =
+      let n = length (g .mesh .h) in
+      let w = seaOf g in
+      let a = table n (λ i. node w i .z) in
+      let b = table n (rise w (g .mesh .kind) (g .forcing)) in
+      let c = table n (U′ w (g .mesh .kind) (g .forcing)) in
+      let d = table n (V′ w (g .mesh .kind) (g .forcing)) in
+      record {
+        long = room-length n (a ∷ b ∷ c ∷ d ∷ []) (length-table n _, (length-table n _, (length-table n _, (length-table n _, tt)))) ∙ ap (λ (k : ℕ). 4 * k) q;
+        values = λ j _.
+            join-fit a _ (table-fit n _ (λ i. all-fit _ _ s (1 * n + i)))
+            (join-fit b _ (table-fit n _ rise-fit)
+            (join-fit c _ (table-fit n _ (λ i. flow-fit _ _ _ .0))
+            (join-fit d [] (table-fit n _ (λ i. flow-fit _ _ _ .1)) (λ i. nan-fits binary64)))) j;
+      }
+
+  pub next-clock-held : T (fits binary64 (g .forcing .wx)) → T (fits binary64 (g .forcing .wy)) → (g .clock .step ≡ 4294967295 → ⊥) → HeldClock (g .clock)
+      → HeldClock (advance g .clock)
+  unfolding advance
+  next-clock-held fx fy l c = record { step = omega (arith, c .step, l); wx = fx; wy = fy }

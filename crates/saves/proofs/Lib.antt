@@ -9,3 +9,4 @@ pub mod BackLaws
 pub mod OwnLaws
 pub mod HeldLaws
 pub mod AgainLaws
+pub mod KeptLaws

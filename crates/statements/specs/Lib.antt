@@ -1,4 +1,5 @@
 pub mod Determined
+pub mod Demand3
 pub mod Examples
 pub mod Computed
 pub mod Demand1

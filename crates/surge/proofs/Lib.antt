@@ -10,3 +10,4 @@ pub mod RoomLaws
 pub mod SolveLaws
 pub mod StepLaws
 pub mod NumberLaws
+pub mod KeptLaws

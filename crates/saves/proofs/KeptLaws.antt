@@ -1,0 +1,92 @@
+-- What a save and a load leave, told by the answer that they give; and a run that can be saved stays one: what is loaded of any text passes rows 10 and 12.
+use Prim.Native.Nat.{ℕ, _*_, _<_, _≤_}
+use mathlib.Core.Path.{_≡_, refl, sym, ap, subst, _∙_}
+use mathlib.Core.Bool.{Bool, true, false, true≢false}
+use mathlib.Core.List.{List}
+use borrow.Author.Tests.{eqb-true, eq-eqb, le-leb}
+use lib.Dec.{eqb}
+use lib.ListN.{length}
+use lib.Ieee.{Float}
+use Rattle.lists.specs.declared.rows.Answer.{Answer}
+use Rattle.lists.proofs.ScanLaws.{row-holds, row-passed, then-next, then-first, then-rest, scan-clean}
+use Rattle.equations.specs.declared.Parameters.{Parameters}
+use Rattle.surge.specs.declared.Clock.{Clock}
+use Rattle.surge.specs.Lent.{Mesh, N, after}
+use Rattle.surge.specs.Rows.{rows1to9}
+use Rattle.limits.specs.Limits.{inBounds, row12Held}
+use Rattle.surge.specs.State.{rows1to10, windOf}
+use Rattle.surge.proofs.AcceptedLaws.{accepted, accepted-rooms}
+use Rattle.surge.proofs.KeptLaws.{four-tables, four-long, in-bounds}
+use Rattle.saves.specs.Lines.{saveLength}
+use Rattle.saves.specs.Save.{row24, saveAnswer, wrote, saveOf}
+use Rattle.saves.specs.Load.{clockOf, loadedNode, loadAnswer, loadedState, loadOf}
+
+-- ---- a save: a run that passes rows 10 and 12, and room enough
+module _ (m : Mesh) (p : Parameters) (state : List Float) (k : Clock) (t : List ℕ) (ok : rows1to10 true m p state .number ≡ 0)
+    (held : row12Held (windOf k) .number ≡ 0) (l : saveLength (N m) ≤ length t) where
+  save-fine : saveAnswer m p state k t .number ≡ 0
+  unfolding saveAnswer row24
+  save-fine = ap (λ (a : Answer). a .number) (then-next _ _ ok ∙ then-next _ _ held ∙ row-holds 24 (saveLength (N m)) (le-leb _ _ l))
+
+  pub save-writes : saveOf m p state k t .answer ≡ wrote (saveLength (N m))
+  unfolding saveOf
+  save-writes = rw (eq-eqb _ _ save-fine)
+
+  pub save-accepts : saveOf m p state k t .answer .number ≡ 0
+  save-accepts = ap (λ (a : Answer). a .number) save-writes
+
+-- ---- a load
+clash : {A : Type 0} {b : Bool} → b ≡ true → b ≡ false → A
+clash p q = absurd (true≢false (sym p ∙ q))
+
+module _ (m : Mesh) (p : Parameters) (t : List ℕ) (state : List Float) where
+  module _ (k : Clock) where
+    -- number 0: the rows accepted, and the text's state and clock came back
+    pub load-took : eqb (loadOf m p t state k .reply .answer .number) 0 ≡ true
+        → (loadAnswer m p t state .number ≡ 0)
+        × (loadOf m p t state k ≡ after (record { answer = loadAnswer m p t state; clock = clockOf (N m) t }) (loadedState (m .h) t))
+    unfolding loadOf
+    load-took e = go (eqb (loadAnswer m p t state .number) 0) refl
+      where
+        go : (b : Bool) → eqb (loadAnswer m p t state .number) 0 ≡ b
+            → (loadAnswer m p t state .number ≡ 0)
+            × (loadOf m p t state k ≡ after (record { answer = loadAnswer m p t state; clock = clockOf (N m) t }) (loadedState (m .h) t))
+        go true q = (eqb-true _ _ q, rw q)
+        go false q = clash (rw q at e) q
+
+    -- any other number: the state and the clock came back as they were
+    pub load-stayed : eqb (loadOf m p t state k .reply .answer .number) 0 ≡ false
+        → loadOf m p t state k ≡ after (record { answer = loadAnswer m p t state; clock = k }) state
+    unfolding loadOf
+    load-stayed e = go (eqb (loadAnswer m p t state .number) 0) refl
+      where
+        go : (b : Bool) → eqb (loadAnswer m p t state .number) 0 ≡ b → loadOf m p t state k ≡ after (record { answer = loadAnswer m p t state; clock = k }) state
+        go true q = clash q (rw q at e)
+        go false q = rw q
+
+  -- ---- what an accepted load leaves
+  module _ (ok : loadAnswer m p t state .number ≡ 0) where
+    load-mesh : rows1to9 true false m p .number ≡ 0
+    unfolding loadAnswer
+    load-mesh =
+        let lent = then-first _ _ ok in
+        subst (λ (b : Bool). rows1to9 b false m p .number ≡ 0) (accepted-rooms _ _ _ _ lent) lent
+
+    pub load-depths : length (m .h) ≡ N m
+    load-depths = accepted _ _ _ _ load-mesh .sized .h
+
+    -- row 12 for the head's wind
+    pub loaded-wind : row12Held (windOf (clockOf (N m) t)) .number ≡ 0
+    unfolding loadAnswer
+    loaded-wind = then-first _ _ (then-rest _ _ (then-rest _ _ (then-rest _ _ ok)))
+
+    node-read : (i : ℕ) → i < N m → inBounds (loadedNode (m .h) t i) ≡ true
+    unfolding loadAnswer
+    node-read i l = row-passed _ 9 i (scan-clean _ _ (then-rest _ _ (then-rest _ _ (then-rest _ _ (then-rest _ _ ok)))) i l)
+
+    -- row 10 over the loaded values
+    pub loaded-rows : rows1to10 true m p (loadedState (m .h) t) .number ≡ 0
+    unfolding loadedState loadedNode
+    loaded-rows =
+        in-bounds m p (loadedState (m .h) t) load-mesh (four-long (length (m .h)) _ _ _ _ ∙ ap (λ (n : ℕ). 4 * n) load-depths)
+        (λ i l. rw (four-tables (m .h) _ _ _ _ i (rw load-depths l)) (node-read i l))

@@ -1,0 +1,116 @@
+-- The product's calls have the laws of a history, so demand 3 holds of it; own saves are accepted back, and every run held can be saved.
+use Prim.Native.Nat.{ℕ}
+use mathlib.Core.Path.{_≡_, sym, ap, subst, _∙_}
+use mathlib.Core.Bool.{true, false}
+use mathlib.Core.List.{List}
+use borrow.Author.Tests.{eqb-true, eq-eqb}
+use lib.ListN.{length}
+use Rattle.equations.specs.declared.Parameters.{Parameters}
+use Rattle.surge.specs.Lent.{Mesh, N, After}
+use Rattle.surge.specs.Rows.{rows1to9}
+use Rattle.surge.specs.Open.{openAnswer, openOf}
+use Rattle.limits.specs.Limits.{row12Held}
+use Rattle.surge.specs.State.{rows1to10, windOf}
+use Rattle.surge.specs.Step.{Given, given, Held, StepOut, advance, Rooms}
+use Rattle.surge.proofs.AcceptedLaws.{accepted}
+use Rattle.surge.proofs.StepLaws.{not-last}
+use Rattle.surge.proofs.KeptLaws.{went-on, stayed, step-mesh, next-rows, next-wind, cold-rows, cold-wind, opened-mesh}
+use Rattle.saves.specs.Load.{loadedState}
+use Rattle.saves.specs.Held.{HeldState, HeldClock}
+use Rattle.saves.proofs.OwnLaws.{saved-loaded}
+use Rattle.saves.proofs.HeldLaws.{clock-held, state-held, cold-clock-held, cold-state-held, next-state-held, next-clock-held}
+use Rattle.saves.proofs.KeptLaws.{save-accepts, load-took, load-stayed, load-depths, loaded-rows, loaded-wind}
+use Rattle.history.specs.History.{Call, history, Laws}
+use Rattle.history.proofs.Demand3.{demand3, held-good}
+use Rattle.statements.specs.Demand3.{Weather, accepts, run, coldRun, stepped, saved, loaded, surge, Demand3AtSurge, OpensCold, OwnSavesLoad, HeldRunsSave}
+
+module _ (m : Mesh) (p : Parameters) where
+  -- a run that these calls can hold: four runs of N binary64, a clock that a head can hold, and rows 10 and 12 pass (10 where the mesh passes 1 to 9)
+  record Good (r : Held) : Type 0 where
+    state : HeldState (N m) (r .state)
+    clock : HeldClock (r .clock)
+    bounds : rows1to9 true false m p .number ≡ 0 → rows1to10 true m p (r .state) .number ≡ 0
+    wind : row12Held (windOf (r .clock)) .number ≡ 0
+
+  good-cold : Good (coldRun m)
+  good-cold = record { state = cold-state-held (N m); clock = cold-clock-held; bounds = cold-rows m p; wind = cold-wind }
+
+  -- ---- a step
+  module _ (r : Held) (f : Weather) (rooms : Rooms) where
+    abbrev its : Given
+    its = given m p (r .state) (r .clock) (f .forcing)
+
+    step-on : Good r → stepped m p r (f .forcing) rooms .accepted ≡ true → (stepped m p r (f .forcing) rooms .held ≡ advance its) × Good (advance its)
+    step-on g e =
+        let w = went-on its rooms e in (
+          rw e (ap (λ (o : StepOut). run (o .rooms .next) (o .reply .clock)) (w .out)),
+          record {
+            state = next-state-held its (f .elevation) (accepted _ _ _ _ (step-mesh its _ (w .first) (w .last)) .sized .h) (g .state);
+            clock = next-clock-held its (f .elevation) (f .wx) (f .wy) (not-last its rooms (w .first)) (g .clock);
+            bounds = λ _. next-rows its _ (w .first) (w .last);
+            wind = next-wind its _ (w .first) (w .last);
+          },
+        )
+
+    step-back : stepped m p r (f .forcing) rooms .accepted ≡ false → stepped m p r (f .forcing) rooms .held ≡ r
+    step-back e = rw e (ap (run (r .state)) (stayed its rooms e))
+
+  -- ---- a load
+  abbrev left : After → Held
+  left o = run (o .state) (o .reply .clock)
+
+  load-on : (r : Held) (t : List ℕ) → loaded m p r t .accepted ≡ true → Good (loaded m p r t .held)
+  load-on r t e =
+      let (ok, out) = load-took m p t (r .state) (r .clock) e in
+      subst Good (sym (ap left out))
+      (record {
+        state = subst (λ (n : ℕ). HeldState n (loadedState (m .h) t)) (load-depths m p t (r .state) ok) (state-held (m .h) t);
+        clock = clock-held (N m) t;
+        bounds = λ _. loaded-rows m p t (r .state) ok;
+        wind = loaded-wind m p t (r .state) ok;
+      })
+
+  load-back : (r : Held) (t : List ℕ) → loaded m p r t .accepted ≡ false → loaded m p r t .held ≡ r
+  load-back r t e = ap left (load-stayed m p t (r .state) (r .clock) e)
+
+  -- ---- a save, and a load of its text
+  own-text : (r q : Held) (text : List ℕ) → Good r → length (q .state) ≡ length (r .state) → saved m p r text .accepted ≡ true
+      → loaded m p q (saved m p r text .text) ≡ record { accepted = true; held = r }
+  own-text r q text g l e =
+      ap (λ (o : After). record { accepted = accepts (o .reply .answer); held = left o })
+      (saved-loaded m p (r .state) (r .clock) (g .state) (g .clock) (q .state) (l ∙ g .state .long) text (eqb-true _ _ e) (q .clock))
+
+  laws : Laws (surge m p)
+  laws = record {
+    Good = Good;
+    cold-good = good-cold;
+    step-accepted = step-on;
+    step-refused = step-back;
+    load-accepted = load-on;
+    load-refused = load-back;
+    load-saved = λ r q text g h. own-text r q text g (h .state .long ∙ sym (g .state .long));
+  }
+
+  -- every run held is such a run
+  good : (cs : List (Call (surge m p))) → Good (history (surge m p) cs .held)
+  unfolding laws
+  good cs = held-good (surge m p) laws cs
+
+-- ---- the statements
+pub demand3-at-surge : Demand3AtSurge
+demand3-at-surge m p = demand3 (surge m p) (laws m p)
+
+pub opens-cold : OpensCold
+unfolding openOf
+opens-cold m p state e = rw e
+
+pub own-saves-load : OwnSavesLoad
+own-saves-load m p cs text state k e l =
+    let g = good m p cs in
+    own-text m p (history (surge m p) cs .held) (run state k) text g (l ∙ sym (g .state .long)) e
+
+pub held-runs-save : HeldRunsSave
+unfolding openOf openAnswer
+held-runs-save m p state cs text e l =
+    let g = good m p cs in
+    eq-eqb _ _ (save-accepts m p _ _ text (g .bounds (opened-mesh _ m p (eqb-true _ _ e))) (g .wind) l)
