@@ -12,13 +12,14 @@ use Rattle.lists.specs.Runs.{isRuns, room}
 use Rattle.lists.specs.Scan.{row, _then_, scan}
 use Rattle.equations.specs.declared.Parameters.{Parameters}
 use Rattle.equations.specs.declared.Node.{Node}
+use Rattle.frames.specs.Frames.{byteOf}
 use Rattle.frames.specs.Reading.{value, fault}
 use Rattle.surge.specs.declared.Clock.{Clock}
 use Rattle.surge.specs.Lent.{Mesh, N, E, After, after}
 use Rattle.surge.specs.Rows.{rows1to9}
 use Rattle.limits.specs.Limits.{inBounds, row12Held}
 use Rattle.surge.specs.State.{windOf}
-use Rattle.saves.specs.Lines.{headLayout, nodeLayout, endLayout, byteOf, dueKind, due, startOf, saveLength}
+use Rattle.saves.specs.Lines.{headLayout, nodeLayout, endLayout, dueKind, due, startOf, saveLength}
 
 -- line j of a text, as much of it as there is: "a missing line being of wrong length"
 abbrev pub lineAt : ℕ → List ℕ → ℕ → List ℕ
