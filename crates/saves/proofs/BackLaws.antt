@@ -13,13 +13,13 @@ use lib.Seq.{take-at, drop-at}
 use lib.Ieee.{Float, nan, binary64, fits, ofBits}
 use Rattle.lists.specs.Scan.{accepted}
 use Rattle.lists.proofs.ScanLaws.{row-holds, then-next}
-use Rattle.frames.specs.Frames.{Frame, wide, text, widthsOf, byteOf, fieldAt}
+use Rattle.frames.specs.Frames.{Frame, wide, text, widthsOf, digitsOf, byteOf, fieldAt}
 use Rattle.frames.specs.Reading.{value, fault}
 use Rattle.frames.proofs.BackLaws.{line-fine, field-back}
 use Rattle.frames.proofs.PatternLaws.{pattern-fits, float-back}
 use Rattle.surge.specs.declared.Clock.{Clock}
 use Rattle.surge.specs.State.{nodeOf}
-use Rattle.saves.specs.Lines.{head, stateValues, nodeLine, end, due, dueKind, bits}
+use Rattle.saves.specs.Lines.{head, stateValues, nodeLine, end, nodeLayout, endLayout, layoutAt, due, bits}
 use Rattle.saves.specs.Save.{lineOf, linesTo, saveText}
 use Rattle.saves.specs.Load.{lineAt, float, row23, lineRows, clockOf, loadedNode}
 use Rattle.saves.proofs.LineLaws.{line-long, lines-long}
@@ -41,12 +41,13 @@ module _ (n e : ℕ) (state : List Float) (k : Clock) where
 
   module _ (few : n ≤ 4096) where
     -- rows 20, 21, 22 over the line that was written, and then 23
-    fault-fine : (j : ℕ) → j < n + 2 → fault (text (lineOf n e state k j)) (due n j) (dueKind n j) j j ≡ accepted
+    fault-fine : (j : ℕ) → j < n + 2 → fault (text (lineOf n e state k j)) (due n j) (layoutAt n j .kind) j j ≡ accepted
     unfolding lineOf
     fault-fine zero h = line-fine (head n e k) 0 (lit< tt) (lit< tt)
     fault-fine (suc i) h = go (ltb i n) refl
       where
-        go : (b : Bool) → ltb i n ≡ b → fault (text (cond b (nodeLine i (stateValues n state i)) (end n))) (cond b 72 12) (cond b 2 3) (suc i) (suc i) ≡ accepted
+        go : (b : Bool) → ltb i n ≡ b → let l = cond b nodeLayout endLayout in
+            fault (text (cond b (nodeLine i (stateValues n state i)) (end n))) (digitsOf (l .widths)) (l .kind) (suc i) (suc i) ≡ accepted
         go true q =
             ap (λ (s : ℕ). fault (text (nodeLine i (stateValues n state i))) 72 2 s (suc i)) (omega arith)
             ∙ line-fine (nodeLine i (stateValues n state i)) (suc i) (lit< tt) (omega (arith, ltb-true i n q))

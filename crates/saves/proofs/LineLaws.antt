@@ -8,10 +8,10 @@ use borrow.Author.Tests.{lt-ltb, le-ltb, leb-true, leb-false}
 use lib.Dec.{ltb, leb}
 use lib.ListN.{length, length-append}
 use lib.Ieee.{Float}
-use Rattle.frames.specs.Frames.{text}
+use Rattle.frames.specs.Frames.{text, digitsOf}
 use Rattle.frames.proofs.FrameLaws.{text-length}
 use Rattle.surge.specs.declared.Clock.{Clock}
-use Rattle.saves.specs.Lines.{head, stateValues, nodeLine, end, due, startOf, saveLength}
+use Rattle.saves.specs.Lines.{nodeLayout, endLayout, head, stateValues, nodeLine, end, due, startOf, saveLength}
 use Rattle.saves.specs.Save.{lineOf, linesTo}
 
 module _ (n e : ℕ) (state : List Float) (k : Clock) where
@@ -34,7 +34,7 @@ module _ (n e : ℕ) (state : List Float) (k : Clock) where
   line-long zero = text-length (head n e k)
   line-long (suc i) = go (ltb i n) refl
     where
-      go : (b : Bool) → ltb i n ≡ b → length (text (cond b (nodeLine i (stateValues n state i)) (end n))) ≡ cond b 72 12 + 1
+      go : (b : Bool) → ltb i n ≡ b → length (text (cond b (nodeLine i (stateValues n state i)) (end n))) ≡ digitsOf (cond b nodeLayout endLayout .widths) + 1
       go true q = text-length (nodeLine i (stateValues n state i))
       go false q = text-length (end n)
 

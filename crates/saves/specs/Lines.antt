@@ -58,14 +58,14 @@ nodeLine i values = line nodeLayout (i + 1) values
 abbrev pub end : ℕ → Frame
 end n = line endLayout (n + 1) (n ∷ [])
 
--- ---- what is due at line j of a save of n nodes
-abbrev pub dueKind : ℕ → ℕ → ℕ
-dueKind n zero = headLayout .kind
-dueKind n (suc i) = cond (ltb i n) (nodeLayout .kind) (endLayout .kind)
+-- ---- what is due at line j of a save of n nodes: "head, nodes, end"
+abbrev pub layoutAt : ℕ → ℕ → Layout
+layoutAt n zero = headLayout
+layoutAt n (suc i) = cond (ltb i n) nodeLayout endLayout
 
+-- "56 digits", "72 digits", "12 digits"
 abbrev pub due : ℕ → ℕ → ℕ
-due n zero = digitsOf (headLayout .widths)
-due n (suc i) = cond (ltb i n) (digitsOf (nodeLayout .widths)) (digitsOf (endLayout .widths))
+due n j = digitsOf (layoutAt n j .widths)
 
 -- the lines before line j, as characters: where it starts
 unfoldable pub startOf : ℕ → ℕ → ℕ
