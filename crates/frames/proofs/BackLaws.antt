@@ -1,9 +1,9 @@
 -- The way back, once over a frame's fields and its line's length: its line is read without fault, and its fields come back.
-use Prim.Native.Nat.{ℕ, zero, suc, _+_, _*_, _%_, _^_, _≤_, _<_}
-use mathlib.Core.Path.{_≡_, refl, sym, ap, _∙_}
+use Prim.Native.Nat.{ℕ, suc, _%_, _^_, _<_}
+use mathlib.Core.Path.{_≡_, refl, ap, _∙_}
 use mathlib.Core.List.{List, [], _∷_, _++_, append-assoc}
 use mathlib.Core.Bool.{Bool, true, false}
-use native.Mathlib.Nat.{one-le-pow, mul-zero, mul-suc, not-suc-le-zero, le-of-suc-le-suc}
+use native.Mathlib.Nat.{one-le-pow}
 use native.Mathlib.Omega.{arith}
 use borrow.Author.Tests.{eq-eqb, le-leb}
 use lib.Dec.{lit<, lit≤, leb}
@@ -12,11 +12,11 @@ use lib.Seq.{take-at, drop-at, getD-at, split-at}
 use Rattle.lists.specs.Scan.{accepted, _then_}
 use Rattle.lists.proofs.ScanLaws.{row-holds}
 use Rattle.frames.specs.Bytes.{digits, allDigits, field, check}
-use Rattle.frames.specs.Frames.{Field, Frame, Held, wide, opening, allFields, fieldBytes, checked, frameBytes, lineFeed, text, widths, dueDigits, fieldsOf, fieldAt, startOf}
+use Rattle.frames.specs.Frames.{Field, Frame, Held, wide, opening, allFields, fieldBytes, checked, frameBytes, lineFeed, text, widthsOf, digitsOf, byteOf, fieldAt}
 use Rattle.frames.specs.Reading.{value, isFramed, row20, row21, row22, fault}
-use Rattle.frames.proofs.ByteLaws.{digits-right, field-length}
+use Rattle.frames.proofs.ByteLaws.{digits-right, digits-length, field-length}
 use Rattle.frames.proofs.NumberLaws.{number-back, number-small}
-use Rattle.frames.proofs.FrameLaws.{fields-length, fields-join, checked-sum, frame-bytes, line-digits, text-length, text-bytes}
+use Rattle.frames.proofs.FrameLaws.{fields-before, fields-join, checked-sum, frame-bytes, line-digits, text-length, text-bytes}
 
 -- ---- a value that is read is small enough for its width, on every line
 pub value-small : (line : List ℕ) (at width : ℕ) → value line at width < 256 ^ width
@@ -30,71 +30,42 @@ value-small line at width = go (leb width 8) refl
 -- ---- a frame's line
 module _ (f : Frame) where
   -- a field x that stands after the fields a
-  value-back : (a : List Field) (x : Field) (b : List Field) → allFields f ≡ a ++ x ∷ b → Held x → value (text f) (widths a) (x .width) ≡ x .value
+  value-back : (a : List Field) (x : Field) (b : List Field) → allFields f ≡ a ++ x ∷ b → Held x → value (text f) (length (fieldBytes a)) (x .width) ≡ x .value
   unfolding value checked fieldBytes
   value-back a x b e h =
       let y = field (x .width) (x .value) in
       let z = check (fieldBytes (allFields f)) ∷ [] in
       let r = fieldBytes b ++ z in
       let split : frameBytes f ≡ fieldBytes a ++ (y ++ r) = ap (λ (l : List Field). fieldBytes l ++ z) e ∙ rw (fields-join a (x ∷ b)) (simp append-assoc) in
-      rw (le-leb (x .width) 8 (h .narrow), text-bytes f, split, drop-at (fieldBytes a) (y ++ r) (widths a) (fields-length a))
+      rw (le-leb (x .width) 8 (h .narrow), text-bytes f, split, drop-at (fieldBytes a) (y ++ r) (length (fieldBytes a)) refl)
       (rw (take-at y r (x .width) (field-length (x .width) (x .value))) (number-back (x .width) (x .value) (h .small)))
 
   -- field j of a frame is read back
   pub field-back : (j : ℕ) → j < length (f .fields) → Held (fieldAt (f .fields) j)
-      → value (text f) (startOf (f .fields) j) (fieldAt (f .fields) j .width) ≡ fieldAt (f .fields) j .value
-  unfolding startOf widths
+      → value (text f) (byteOf (widthsOf (f .fields)) j) (fieldAt (f .fields) j .width) ≡ fieldAt (f .fields) j .value
+  unfolding fieldBytes field
   field-back j l h =
       let o = opening (f .kind) (f .sequence) in
-      ap (λ (k : ℕ). value (text f) k (fieldAt (f .fields) j .width)) (omega arith)
+      ap (λ (k : ℕ). value (text f) k (fieldAt (f .fields) j .width)) (omega (arith, fields-before (f .fields) j))
       ∙ value-back (o ++ take j (f .fields)) (fieldAt (f .fields) j) (drop (suc j) (f .fields))
       (ap (λ (l : List Field). o ++ l) (split-at (f .fields) j (wide 0 0) l)) h
 
-  even : dueDigits (f .fields) % 2 ≡ 0
-  unfolding dueDigits
-  even = omega arith
+  even : digitsOf (widthsOf (f .fields)) % 2 ≡ 0
+  even = rw (← line-digits f, digits-length (frameBytes f)) (omega arith)
 
-  feed : getD (text f) (dueDigits (f .fields)) 0 ≡ lineFeed
+  feed : getD (text f) (digitsOf (widthsOf (f .fields))) 0 ≡ lineFeed
   unfolding text
-  feed = getD-at (digits (frameBytes f)) lineFeed [] 0 (dueDigits (f .fields)) (line-digits f)
+  feed = getD-at (digits (frameBytes f)) lineFeed [] 0 (digitsOf (widthsOf (f .fields))) (line-digits f)
 
   right : allDigits (text f) ≡ true
   unfolding text allDigits
   right = digits-right (frameBytes f) (lineFeed ∷ []) (frame-bytes f)
 
   -- a frame's line is read without fault, by its own digits, kind and sequence
-  pub line-fine : (place : ℕ) → f .kind < 256 → f .sequence < 65536 → fault (text f) (dueDigits (f .fields)) (f .kind) (f .sequence) place ≡ accepted
-  unfolding fault row20 row21 row22 isFramed _then_ widths
+  pub line-fine : (place : ℕ) → f .kind < 256 → f .sequence < 65536 → fault (text f) (digitsOf (widthsOf (f .fields))) (f .kind) (f .sequence) place ≡ accepted
+  unfolding fault row20 row21 row22 isFramed _then_ fieldBytes field
   line-fine place k s =
       let kind : value (text f) 0 1 ≡ f .kind = value-back [] (wide 1 (f .kind)) (wide 2 (f .sequence) ∷ f .fields) refl (record { narrow = lit≤ tt; small = k }) in
       let seq : value (text f) 1 2 ≡ f .sequence = value-back (wide 1 (f .kind) ∷ []) (wide 2 (f .sequence)) (f .fields) refl (record { narrow = lit≤ tt; small = s }) in
       rw (eq-eqb _ _ (text-length f), eq-eqb _ _ even, eq-eqb _ _ feed, right, text-bytes f, eq-eqb _ _ (checked-sum (fieldBytes (allFields f))), eq-eqb _ _ kind, eq-eqb _ _ seq)
       (rw (row-holds {test = true} 20 place refl, row-holds {test = true} 21 place refl, row-holds {test = true} 22 place refl))
-
--- ---- a frame whose fields have one width: value j is read back
-module _ (w : ℕ) where
-  field-of : (vs : List ℕ) (j : ℕ) → j < length vs → fieldAt (fieldsOf w vs) j ≡ wide w (getD vs j 0)
-  unfolding fieldsOf
-  field-of [] j h = absurd (not-suc-le-zero h)
-  field-of (v ∷ vs) zero h = refl
-  field-of (v ∷ vs) (suc j) h = field-of vs j (le-of-suc-le-suc h)
-
-  fields-count : (vs : List ℕ) → length (fieldsOf w vs) ≡ length vs
-  unfolding fieldsOf
-  fields-count [] = refl
-  fields-count (v ∷ vs) = ap suc (fields-count vs)
-
-  widths-before : (vs : List ℕ) (j : ℕ) → j ≤ length vs → widths (take j (fieldsOf w vs)) ≡ w * j
-  unfolding fieldsOf widths
-  widths-before vs zero h = sym (mul-zero w)
-  widths-before [] (suc j) h = absurd (not-suc-le-zero h)
-  widths-before (v ∷ vs) (suc j) h = rw (widths-before vs j (le-of-suc-le-suc h), mul-suc) (omega arith)
-
-  pub values-back : (kind sequence : ℕ) (vs : List ℕ) (j : ℕ) → j < length vs → w ≤ 8 → getD vs j 0 < 256 ^ w
-      → value (text (record { kind = kind; sequence = sequence; fields = fieldsOf w vs })) (3 + w * j) w ≡ getD vs j 0
-  unfolding startOf
-  values-back kind sequence vs j h n s =
-      let f : Frame = record { kind = kind; sequence = sequence; fields = fieldsOf w vs } in
-      let e = field-of vs j h in
-      let back = field-back f j (rw fields-count h) (rw e (record { narrow = n; small = s })) in
-      rw (← widths-before vs j (omega arith)) (rw e at back)

@@ -1,24 +1,34 @@
 -- Laws of a frame's line, once over its fields and its length: its bytes, how long it is, and how it is built.
-use Prim.Native.Nat.{ℕ, _+_, _-_, _*_, _%_, _≤_, _<_}
+use Prim.Native.Nat.{ℕ, zero, suc, _+_, _-_, _*_, _%_, _≤_, _<_}
 use mathlib.Core.Path.{_≡_, refl, sym, ap, _∙_}
 use mathlib.Core.List.{List, [], _∷_, _++_, append-assoc, append-nil}
 use native.Mathlib.Nat.{mod-lt}
 use native.Mathlib.Omega.{arith}
 use lib.Dec.{lit<}
-use lib.ListN.{length, length-append}
+use lib.ListN.{length, take, length-append}
 use Rattle.frames.specs.Bytes.{digits, bytes, field, sum, check}
-use Rattle.frames.specs.Frames.{Field, Frame, allFields, fieldBytes, checked, frameBytes, lineFeed, text, widths, dueDigits}
+use Rattle.frames.specs.Frames.{Field, Frame, allFields, fieldBytes, checked, frameBytes, lineFeed, text, widthsOf, digitsOf, byteOf}
 use Rattle.frames.specs.Building.{room, holding, withFields, begun, sealed}
-use Rattle.frames.specs.Reading.{value}
 use Rattle.frames.proofs.ByteLaws.{Bytes, bytes-join, field-bytes, bytes-back, digits-join, digits-length, field-length}
 use Rattle.frames.proofs.NumberLaws.{sum-join}
-use Rattle.frames.proofs.BuildLaws.{field-digits, written-holding, appended-holding}
+use Rattle.frames.proofs.BuildLaws.{written-holding, appended-holding}
 
 -- ---- the bytes of fields
-pub fields-length : (fs : List Field) → length (fieldBytes fs) ≡ widths fs
-unfolding fieldBytes widths
-fields-length [] = refl
-fields-length (f ∷ fs) = length-append (field (f .width) (f .value)) (fieldBytes fs) ∙ rw (field-length (f .width) (f .value), fields-length fs)
+one-more : (f : Field) (fs : List Field) → length (fieldBytes (f ∷ fs)) ≡ f .width + length (fieldBytes fs)
+unfolding fieldBytes
+one-more f fs = length-append (field (f .width) (f .value)) (fieldBytes fs) ∙ rw (field-length (f .width) (f .value))
+
+fields-digits : (fs : List Field) → 8 + 2 * length (fieldBytes fs) ≡ digitsOf (widthsOf fs)
+unfolding fieldBytes
+fields-digits [] = refl
+fields-digits (f ∷ fs) = omega (arith, one-more f fs, fields-digits fs)
+
+-- where field j starts
+pub fields-before : (fs : List Field) (j : ℕ) → 3 + length (fieldBytes (take j fs)) ≡ byteOf (widthsOf fs) j
+unfolding fieldBytes
+fields-before fs zero = refl
+fields-before [] (suc j) = refl
+fields-before (f ∷ fs) (suc j) = omega (arith, one-more f (take j fs), fields-before fs j)
 
 fields-bytes : (fs : List Field) → Bytes (fieldBytes fs)
 unfolding fieldBytes
@@ -42,16 +52,17 @@ unfolding checked check sum
 checked-sum bs = rw (sum-join bs (check bs ∷ [])) (omega arith)
 
 -- ---- a line that holds fields
-fields-holding : (t : List ℕ) (fs : List Field) → length t + 2 * widths fs ≤ room → withFields (holding t) fs ≡ holding (t ++ digits (fieldBytes fs))
-unfolding withFields fieldBytes widths digits
+fields-holding : (t : List ℕ) (fs : List Field) → length t + length (digits (fieldBytes fs)) ≤ room → withFields (holding t) fs ≡ holding (t ++ digits (fieldBytes fs))
+unfolding withFields fieldBytes digits
 fields-holding t [] h = ap holding (sym (append-nil t))
 fields-holding t (f ∷ fs) h =
     let u = digits (field (f .width) (f .value)) in
-    let n : length u ≡ 2 * f .width = field-digits (f .width) (f .value) in
-    let m : length (t ++ u) ≡ length t + 2 * f .width = length-append t u ∙ rw n in
+    let v = digits (fieldBytes fs) in
+    let both : digits (fieldBytes (f ∷ fs)) ≡ u ++ v = digits-join (field (f .width) (f .value)) (fieldBytes fs) in
+    let n : length (digits (fieldBytes (f ∷ fs))) ≡ length u + length v = ap length both ∙ length-append u v in
+    let m = length-append t u in
     rw (appended-holding t u (omega arith))
-    (fields-holding (t ++ u) fs (omega arith)
-    ∙ ap holding (append-assoc t u (digits (fieldBytes fs)) ∙ ap (λ (l : List ℕ). t ++ l) (sym (digits-join (field (f .width) (f .value)) (fieldBytes fs)))))
+    (fields-holding (t ++ u) fs (omega arith) ∙ ap holding (append-assoc t u v ∙ ap (λ (l : List ℕ). t ++ l) (sym both)))
 
 ending-length : (b : ℕ) → length (digits (b ∷ []) ++ (lineFeed ∷ [])) ≡ 3
 unfolding digits
@@ -70,14 +81,14 @@ module _ (f : Frame) where
   pub frame-bytes : Bytes (frameBytes f)
   frame-bytes = checked-bytes (fieldBytes (allFields f)) (fields-bytes (allFields f))
 
-  pub line-digits : length (digits (frameBytes f)) ≡ dueDigits (f .fields)
-  unfolding checked dueDigits widths
+  pub line-digits : length (digits (frameBytes f)) ≡ digitsOf (widthsOf (f .fields))
+  unfolding checked fieldBytes field
   line-digits =
       let b = fieldBytes (allFields f) in
-      digits-length (frameBytes f) ∙ rw (length-append b (check b ∷ []), fields-length (allFields f)) (omega arith)
+      digits-length (frameBytes f) ∙ rw (length-append b (check b ∷ [])) (omega (arith, fields-digits (f .fields)))
 
   -- two for each byte, and the line feed
-  pub text-length : length (text f) ≡ dueDigits (f .fields) + 1
+  pub text-length : length (text f) ≡ digitsOf (widthsOf (f .fields)) + 1
   unfolding text
   text-length = length-append (digits (frameBytes f)) (lineFeed ∷ []) ∙ rw line-digits
 
@@ -87,9 +98,9 @@ module _ (f : Frame) where
   text-bytes = bytes-back (frameBytes f) (lineFeed ∷ []) frame-bytes ∙ append-nil (frameBytes f)
 
   -- ---- what is begun, appended and sealed is the frame's line
-  pub built : dueDigits (f .fields) < room → sealed (withFields (begun (f .kind) (f .sequence)) (f .fields)) ≡ holding (text f)
-  unfolding withFields widths dueDigits text
+  pub built : digitsOf (widthsOf (f .fields)) < room → sealed (withFields (begun (f .kind) (f .sequence)) (f .fields)) ≡ holding (text f)
+  unfolding withFields fieldBytes field text
   built h =
       let b = fieldBytes (allFields f) in
-      let n : length (digits b) ≡ 2 * (3 + widths (f .fields)) = digits-length b ∙ rw (fields-length (allFields f)) (omega arith) in
+      let n : length (digits b) + 2 ≡ digitsOf (widthsOf (f .fields)) = omega (arith, digits-length b, fields-digits (f .fields)) in
       ap sealed (fields-holding [] (allFields f) (omega arith)) ∙ sealed-holding b (fields-bytes (allFields f)) (omega arith)

@@ -5,7 +5,7 @@ use mathlib.Core.List.{[], _∷_}
 use lib.Dec.{lit<, lit≤}
 use lib.IntN.{pos}
 use lib.Ieee.{nan, fin, binary64, toBits, ofBits}
-use Rattle.frames.specs.Frames.{Frame, wide, text, dueDigits, widths, startOf}
+use Rattle.frames.specs.Frames.{Frame, wide, text, widthsOf, digitsOf}
 use Rattle.frames.specs.Reading.{value}
 use Rattle.frames.proofs.BackLaws.{field-back}
 
@@ -14,12 +14,12 @@ unfoldable headT : Frame
 headT = record { kind = 1; sequence = 0; fields = wide 2 3 ∷ wide 2 1 ∷ wide 4 0 ∷ wide 8 0 ∷ wide 8 0 ∷ [] }
 
 -- it has "56 digits", and its E is read back
-head-digits : dueDigits (headT .fields) ≡ 56
-unfolding headT dueDigits widths
+head-digits : digitsOf (widthsOf (headT .fields)) ≡ 56
+unfolding headT
 head-digits = refl
 
 head-back : value (text headT) 5 2 ≡ 1
-unfolding headT startOf widths
+unfolding headT
 head-back = field-back headT 1 (lit< tt) (record { narrow = lit≤ tt; small = lit< tt })
 
 -- "-0 saved as +0" is a fault we have met; a NaN has one pattern, and each of its patterns is read as it

@@ -1,7 +1,7 @@
 -- Document 01, "Frames": a frame as its kind, its sequence and its fields, and the line of text that it is.
-use Prim.Native.Nat.{ℕ, _+_, _*_, _^_, _<_, _≤_}
+use Prim.Native.Nat.{ℕ, zero, suc, _+_, _*_, _^_, _<_, _≤_}
 use mathlib.Core.List.{List, [], _∷_, _++_}
-use lib.ListN.{getD, take}
+use lib.ListN.{getD}
 use Rattle.frames.specs.Bytes.{digits, field, check}
 
 -- a number and the bytes that it takes, as in "N (2), E (2), step (4), Wx, Wy"
@@ -16,11 +16,6 @@ pub record Frame : Type 0 where
 
 abbrev pub wide : ℕ → ℕ → Field
 wide w v = record { width = w; value = v }
-
--- values in fields of one width, as a node's "earlier z, z, U, V"
-unfoldable pub fieldsOf : ℕ → List ℕ → List Field
-fieldsOf w [] = []
-fieldsOf w (v ∷ vs) = wide w v ∷ fieldsOf w vs
 
 -- "kind byte, two-byte sequence, fields"
 abbrev pub opening : ℕ → ℕ → List Field
@@ -47,21 +42,25 @@ lineFeed = 10
 unfoldable pub text : Frame → List ℕ
 text f = digits (frameBytes f) ++ (lineFeed ∷ [])
 
--- the bytes that fields take
-unfoldable pub widths : List Field → ℕ
-widths [] = 0
-widths (f ∷ fs) = f .width + widths fs
+-- ---- what follows from how many bytes each field has
+abbrev pub widthsOf : List Field → List ℕ
+widthsOf [] = []
+widthsOf (f ∷ fs) = f .width ∷ widthsOf fs
 
 -- a line's digits, as in "56 digits": two for each byte of kind, sequence, fields and check byte
-unfoldable pub dueDigits : List Field → ℕ
-dueDigits fields = 2 * (4 + widths fields)
+abbrev pub digitsOf : List ℕ → ℕ
+digitsOf [] = 8
+digitsOf (w ∷ ws) = 2 * w + digitsOf ws
 
--- field j of a frame, from 0, and the frame byte at which it starts
+-- the frame byte at which field j starts, from 0: past kind and sequence, and the fields before it
+abbrev pub byteOf : List ℕ → ℕ → ℕ
+byteOf ws zero = 3
+byteOf [] (suc j) = 3
+byteOf (w ∷ ws) (suc j) = w + byteOf ws j
+
+-- ---- field j of a frame, from 0
 abbrev pub fieldAt : List Field → ℕ → Field
 fieldAt fields j = getD fields j (wide 0 0)
-
-unfoldable pub startOf : List Field → ℕ → ℕ
-startOf fields j = 3 + widths (take j fields)
 
 -- a value that its field can hold
 pub record Held (f : Field) : Type 0 where

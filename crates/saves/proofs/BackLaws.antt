@@ -13,13 +13,13 @@ use lib.Seq.{take-at, drop-at}
 use lib.Ieee.{Float, nan, binary64, fits, ofBits}
 use Rattle.lists.specs.Scan.{accepted}
 use Rattle.lists.proofs.ScanLaws.{row-holds, then-next}
-use Rattle.frames.specs.Frames.{text, dueDigits, widths, fieldsOf, startOf}
+use Rattle.frames.specs.Frames.{Frame, wide, text, widthsOf, digitsOf, byteOf, fieldAt}
 use Rattle.frames.specs.Reading.{value, fault}
-use Rattle.frames.proofs.BackLaws.{line-fine, field-back, values-back}
+use Rattle.frames.proofs.BackLaws.{line-fine, field-back}
 use Rattle.frames.proofs.PatternLaws.{pattern-fits, float-back}
 use Rattle.surge.specs.declared.Clock.{Clock}
 use Rattle.surge.specs.State.{nodeOf}
-use Rattle.saves.specs.Lines.{head, stateValues, nodeLine, end, due, dueKind, bits}
+use Rattle.saves.specs.Lines.{head, stateValues, nodeLine, end, nodeLayout, endLayout, layoutAt, due, bits}
 use Rattle.saves.specs.Held.{HeldClock, HeldState}
 use Rattle.saves.specs.Save.{lineOf, linesTo, saveText}
 use Rattle.saves.specs.Load.{lineAt, float, row23, lineRows, clockOf, loadedNode}
@@ -42,12 +42,13 @@ module _ (n e : ℕ) (state : List Float) (k : Clock) where
 
   module _ (few : n ≤ 4096) where
     -- rows 20, 21, 22 over the line that was written, and then 23
-    fault-fine : (j : ℕ) → j < n + 2 → fault (text (lineOf n e state k j)) (due n j) (dueKind n j) j j ≡ accepted
-    unfolding lineOf dueDigits widths fieldsOf
+    fault-fine : (j : ℕ) → j < n + 2 → fault (text (lineOf n e state k j)) (due n j) (layoutAt n j .kind) j j ≡ accepted
+    unfolding lineOf
     fault-fine zero h = line-fine (head n e k) 0 (lit< tt) (lit< tt)
     fault-fine (suc i) h = go (ltb i n) refl
       where
-        go : (b : Bool) → ltb i n ≡ b → fault (text (cond b (nodeLine i (stateValues n state i)) (end n))) (cond b 72 12) (cond b 2 3) (suc i) (suc i) ≡ accepted
+        go : (b : Bool) → ltb i n ≡ b → let l = cond b nodeLayout endLayout in
+            fault (text (cond b (nodeLine i (stateValues n state i)) (end n))) (digitsOf (l .widths)) (l .kind) (suc i) (suc i) ≡ accepted
         go true q =
             ap (λ (s : ℕ). fault (text (nodeLine i (stateValues n state i))) 72 2 s (suc i)) (omega arith)
             ∙ line-fine (nodeLine i (stateValues n state i)) (suc i) (lit< tt) (omega (arith, ltb-true i n q))
@@ -57,14 +58,14 @@ module _ (n e : ℕ) (state : List Float) (k : Clock) where
 
     module _ (few-triangles : e < 65536) where
       head-same : row23 n e (text (head n e k)) 0 ≡ accepted
-      unfolding row23 startOf widths
+      unfolding row23
       head-same =
           let its-n : value (text (head n e k)) 3 2 ≡ n = field-back (head n e k) 0 (lit< tt) (record { narrow = lit≤ tt; small = omega arith }) in
           let its-e : value (text (head n e k)) 5 2 ≡ e = field-back (head n e k) 1 (lit< tt) (record { narrow = lit≤ tt; small = few-triangles }) in
           row-holds 23 0 (rw (eq-eqb _ _ its-n, eq-eqb _ _ its-e))
 
       counts-same : (j : ℕ) → j < n + 2 → row23 n e (text (lineOf n e state k j)) j ≡ accepted
-      unfolding lineOf row23 startOf widths
+      unfolding lineOf row23
       counts-same zero h = head-same
       counts-same (suc i) h = row-holds 23 (suc i) (go (ltb i n) refl)
         where
@@ -78,36 +79,34 @@ module _ (n e : ℕ) (state : List Float) (k : Clock) where
       lines-fine rest j h = rw (line-back rest j h, fault-fine j h) (then-next accepted _ refl ∙ counts-same j h)
 
 -- ---- a run whose numbers a save's fields can hold
--- a value whose pattern is read is read back
-pattern-read : (x : Float) {p : ℕ} → T (fits binary64 x) → p ≡ bits x → ofBits binary64 p ≡ x
-pattern-read x h q = ap (ofBits binary64) q ∙ float-back x h
+-- a float that is field j of a frame is read back
+float-field : (f : Frame) (j : ℕ) → j < length (f .fields) → (x : Float) → fieldAt (f .fields) j ≡ wide 8 (bits x) → T (fits binary64 x)
+    → float (text f) (byteOf (widthsOf (f .fields)) j) ≡ x
+float-field f j l x q h =
+    let back = field-back f j l (rw q (record { narrow = lit≤ tt; small = pattern-fits x h })) in
+    ap (ofBits binary64) (rw q at back) ∙ float-back x h
 
 module _ (e : ℕ) (state : List Float) (k : Clock) (rest : List ℕ) where
   -- the clock that is read of a save's text is the one that was saved
   pub clock-back : (n : ℕ) → HeldClock k → clockOf n (saveText n e state k ++ rest) ≡ k
-  unfolding clockOf lineOf startOf widths
+  unfolding clockOf lineOf
   clock-back n s =
       let l = head n e k in
       let its-step : value (text l) 7 4 ≡ k .step = field-back l 2 (lit< tt) (record { narrow = lit≤ tt; small = s .step }) in
-      let its-wx = pattern-read (k .wx) (s .wx) (field-back l 3 (lit< tt) (record { narrow = lit≤ tt; small = pattern-fits (k .wx) (s .wx) })) in
-      let its-wy = pattern-read (k .wy) (s .wy) (field-back l 4 (lit< tt) (record { narrow = lit≤ tt; small = pattern-fits (k .wy) (s .wy) })) in
-      rw (line-back n e state k rest 0 (omega arith)) (λ i. record { step = its-step i; wx = its-wx i; wy = its-wy i })
+      rw (line-back n e state k rest 0 (omega arith))
+      (λ i. record { step = its-step i; wx = float-field l 3 (lit< tt) (k .wx) refl (s .wx) i; wy = float-field l 4 (lit< tt) (k .wy) refl (s .wy) i })
 
   module _ (n : ℕ) (s : HeldState n state) (h : List Float) (q : length h ≡ n) (i : ℕ) (l : i < n) where
-    float-read : (j : ℕ) → j < 4 → (x : Float) → getD (stateValues n state i) j 0 ≡ bits x → T (fits binary64 x)
-        → float (text (nodeLine i (stateValues n state i))) (3 + 8 * j) ≡ x
-    unfolding fieldsOf
-    float-read j b x p f = pattern-read x f (values-back 8 2 (i + 1) (stateValues n state i) j b (lit≤ tt) (rw p (pattern-fits x f)) ∙ p)
-
     -- the values of node i that are read of a save's text are those that the state has there
     pub node-back : loadedNode h (saveText n e state k ++ rest) i ≡ nodeOf h state i
     unfolding loadedNode lineOf
     node-back =
+        let f = nodeLine i (stateValues n state i) in
         rw (q, line-back n e state k rest (suc i) (omega arith), lt-ltb i n l)
         (λ j. record {
           h = getD h i nan;
-          earlier = float-read 0 (lit< tt) _ refl (s .values (0 * n + i) (omega arith)) j;
-          z = float-read 1 (lit< tt) _ refl (s .values (1 * n + i) (omega arith)) j;
-          u = float-read 2 (lit< tt) _ refl (s .values (2 * n + i) (omega arith)) j;
-          v = float-read 3 (lit< tt) _ refl (s .values (3 * n + i) (omega arith)) j;
+          earlier = float-field f 0 (lit< tt) _ refl (s .values (0 * n + i) (omega arith)) j;
+          z = float-field f 1 (lit< tt) _ refl (s .values (1 * n + i) (omega arith)) j;
+          u = float-field f 2 (lit< tt) _ refl (s .values (2 * n + i) (omega arith)) j;
+          v = float-field f 3 (lit< tt) _ refl (s .values (3 * n + i) (omega arith)) j;
         })

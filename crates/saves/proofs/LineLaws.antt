@@ -1,32 +1,18 @@
--- What a line of a save comes to: what is built is its text, and how long it is.
+-- Which line of a save is which, and how long they are.
 use Prim.Native.Nat.{ℕ, zero, suc, _+_, _-_, _*_, _<_, _≤_}
 use mathlib.Core.Path.{_≡_, refl, ap, _∙_}
 use mathlib.Core.Bool.{Bool, true, false, cond}
-use mathlib.Core.List.{List, [], _∷_}
+use mathlib.Core.List.{List}
 use native.Mathlib.Omega.{arith}
 use borrow.Author.Tests.{lt-ltb, le-ltb, leb-true, leb-false}
-use lib.Dec.{ltb, leb, lit<}
+use lib.Dec.{ltb, leb}
 use lib.ListN.{length, length-append}
 use lib.Ieee.{Float}
-use Rattle.frames.specs.Frames.{text, dueDigits, widths, fieldsOf}
-use Rattle.frames.specs.Building.{begun, withFields, sealed, holding}
-use Rattle.frames.proofs.FrameLaws.{built, text-length}
+use Rattle.frames.specs.Frames.{text, digitsOf}
+use Rattle.frames.proofs.FrameLaws.{text-length}
 use Rattle.surge.specs.declared.Clock.{Clock}
-use Rattle.saves.specs.Lines.{head, stateValues, nodeLine, end, due, startOf, saveLength}
+use Rattle.saves.specs.Lines.{nodeLayout, endLayout, head, stateValues, nodeLine, end, due, startOf, saveLength}
 use Rattle.saves.specs.Save.{lineOf, linesTo}
-
--- ---- the three lines as they are built
-pub head-built : (n e : ℕ) (k : Clock) → sealed (withFields (begun 1 0) (head n e k .fields)) ≡ holding (text (head n e k))
-unfolding dueDigits widths
-head-built n e k = built (head n e k) (lit< tt)
-
-pub node-built : (i a b c d : ℕ) → sealed (withFields (begun 2 (i + 1)) (fieldsOf 8 (a ∷ b ∷ c ∷ d ∷ []))) ≡ holding (text (nodeLine i (a ∷ b ∷ c ∷ d ∷ [])))
-unfolding dueDigits widths fieldsOf
-node-built i a b c d = built (nodeLine i (a ∷ b ∷ c ∷ d ∷ [])) (lit< tt)
-
-pub end-built : (n : ℕ) → sealed (withFields (begun 3 (n + 1)) (end n .fields)) ≡ holding (text (end n))
-unfolding dueDigits widths
-end-built n = built (end n) (lit< tt)
 
 module _ (n e : ℕ) (state : List Float) (k : Clock) where
   -- ---- which line is a node's, and which the last
@@ -44,11 +30,11 @@ module _ (n e : ℕ) (state : List Float) (k : Clock) where
 
   -- ---- how long they are
   pub line-long : (j : ℕ) → length (text (lineOf n e state k j)) ≡ due n j + 1
-  unfolding lineOf dueDigits widths fieldsOf
+  unfolding lineOf
   line-long zero = text-length (head n e k)
   line-long (suc i) = go (ltb i n) refl
     where
-      go : (b : Bool) → ltb i n ≡ b → length (text (cond b (nodeLine i (stateValues n state i)) (end n))) ≡ cond b 72 12 + 1
+      go : (b : Bool) → ltb i n ≡ b → length (text (cond b (nodeLine i (stateValues n state i)) (end n))) ≡ digitsOf (cond b nodeLayout endLayout .widths) + 1
       go true q = text-length (nodeLine i (stateValues n state i))
       go false q = text-length (end n)
 

@@ -14,18 +14,17 @@ use Rattle.lists.specs.declared.rows.Answer.{Answer}
 use Rattle.lists.specs.Table.{table}
 use Rattle.lists.specs.Runs.{run}
 use Rattle.lists.specs.Scan.{accepted, row}
-use Rattle.lists.proofs.ScanLaws.{row-holds, then-first, then-rest, scan-none, scan-clean, same-number, goes}
+use Rattle.lists.proofs.ScanLaws.{row-holds, then-first, then-rest, scan-none, same-number, goes}
 use Rattle.lists.proofs.TableLaws.{length-table, is-table, table-same}
 use Rattle.lists.proofs.RunLaws.{room-of-runs}
 use Rattle.equations.specs.declared.Parameters.{Parameters}
 use Rattle.equations.specs.declared.Node.{Node}
 use Rattle.surge.specs.declared.Clock.{Clock}
 use Rattle.surge.specs.Lent.{Mesh, N, E, after}
-use Rattle.surge.specs.Rows.{rows1to9}
 use Rattle.limits.specs.Limits.{inBounds, row12Held}
 use Rattle.surge.specs.State.{inRun, nodeOf, row10, rows1to10, windOf}
 use Rattle.surge.specs.Accepted.{Sized}
-use Rattle.surge.proofs.AcceptedLaws.{accepted as all-accepted}
+use Rattle.surge.proofs.StateLaws.{AcceptedRun, accepted-run}
 use Rattle.saves.specs.Held.{HeldClock, HeldState}
 use Rattle.saves.specs.Lines.{saveLength}
 use Rattle.saves.specs.Save.{saveText, saveAnswer, saveOf}
@@ -70,16 +69,15 @@ passed q = same-number (sym q) refl
 module _ (m : Mesh) (p : Parameters) (state : List Float) (k : Clock) (s : HeldState (N m) state) (c : HeldClock k) (old : List Float) (long : length old ≡ 4 * N m) where
   -- ---- a save's own text is loaded, over any state of the right length
   module _ (ok : rows1to10 true m p state .number ≡ 0) (held : row12Held (windOf k) .number ≡ 0) where
-    mesh-fine : rows1to9 true false m p .number ≡ 0
-    unfolding rows1to10
-    mesh-fine = rw (eq-eqb _ _ (s .long)) at (then-first _ _ ok)
+    run-fine : AcceptedRun true m p state
+    run-fine = accepted-run _ _ _ _ ok
 
     sizes : Sized m
-    sizes = all-accepted _ _ _ _ mesh-fine .sized
+    sizes = run-fine .mesh .sized
 
     node-fine : (i : ℕ) → i < N m → row (inBounds (loadedNode (m .h) (saveText (N m) (E m) state k ++ []) i)) 10 i .number ≡ 0
-    unfolding rows1to10 row10
-    node-fine i b = rw (node-back (E m) state k [] (N m) s (m .h) (sizes .h) i b) (scan-clean (row10 (m .h) state) (N m) (then-rest _ _ ok) i b)
+    unfolding row10
+    node-fine i b = rw (node-back (E m) state k [] (N m) s (m .h) (sizes .h) i b) (run-fine .bounds i b)
 
     line-fine : (j : ℕ) → j < N m + 2 → lineRows (N m) (E m) (saveText (N m) (E m) state k ++ []) j .number ≡ 0
     line-fine j b = passed (lines-fine (N m) (E m) state k (sizes .most-nodes) (omega (arith, sizes .most-triangles)) [] j b)
@@ -88,7 +86,7 @@ module _ (m : Mesh) (p : Parameters) (state : List Float) (k : Clock) (s : HeldS
     unfolding loadAnswer
     fine =
         let no-more : length (saveText (N m) (E m) state k ++ []) ≤ saveLength (N m) = rw (append-nil, lines-long, save-long) (omega arith) in
-        goes _ (rw (eq-eqb _ _ long) mesh-fine)
+        goes _ (rw (eq-eqb _ _ long) (run-fine .to-9))
         (goes _ (passed (scan-none _ (N m + 2) line-fine))
         (goes _ (passed (row-holds 20 (N m + 2) (le-leb _ _ no-more)))
         (goes _ (rw (clock-back (E m) state k [] (N m) c) held) (sym (scan-none _ (N m) node-fine)))))

@@ -1,38 +1,22 @@
 -- The three outcomes of a save: refused by rows 1 to 10, refused by 12 or 24, and written.
-use Prim.Native.Nat.{ℕ, _*_, _≤_}
+use Prim.Native.Nat.{ℕ, _≤_}
 use mathlib.Core.Path.{_≡_, ap}
-use mathlib.Core.Bool.{true, false, _&&_}
+use mathlib.Core.Bool.{true}
 use mathlib.Core.List.{List, _++_}
-use borrow.Author.Tests.{eqb-true, leb-true, eq-eqb, ne-eqb}
+use borrow.Author.Tests.{leb-true, eq-eqb, ne-eqb}
 use lib.ListN.{length, drop}
 use lib.Ieee.{Float}
 use Rattle.lists.specs.declared.rows.Answer.{Answer}
-use Rattle.lists.specs.Runs.{isRuns}
 use Rattle.lists.specs.Scan.{_then_}
-use Rattle.lists.proofs.ScanLaws.{row-passed, then-first, then-rest, same-number, other-number, stops, goes, both-left}
+use Rattle.lists.proofs.ScanLaws.{row-passed, then-rest, same-number, other-number, stops, goes}
 use Rattle.equations.specs.declared.Parameters.{Parameters}
 use Rattle.surge.specs.declared.Clock.{Clock}
 use Rattle.surge.specs.Lent.{Mesh, N, E}
-use Rattle.surge.specs.Rows.{rows1to9}
 use Rattle.limits.specs.Limits.{row12Held}
 use Rattle.surge.specs.State.{rows1to10, windOf}
-use Rattle.surge.proofs.AcceptedLaws.{accepted, accepted-rooms}
 use Rattle.saves.specs.Lines.{saveLength}
 use Rattle.saves.specs.Save.{saveText, row24, saveAnswer, saveOut, wrote, saveOf}
 
--- ---- what is known past rows 1 to 10
-module _ (m : Mesh) (p : Parameters) (state : List Float) (ok : rows1to10 true m p state .number ≡ 0) where
-  to-9 : rows1to9 (isRuns (length state) 4 (N m) && true) false m p .number ≡ 0
-  unfolding rows1to10
-  to-9 = then-first _ _ ok
-
-  pub few : N m ≤ 4096
-  few = accepted _ _ _ _ to-9 .sized .most-nodes
-
-  pub state-long : length state ≡ 4 * N m
-  state-long = eqb-true _ _ (both-left (isRuns (length state) 4 (N m)) true (accepted-rooms _ _ _ _ to-9))
-
--- ---- the outcomes
 module _ (m : Mesh) (p : Parameters) (state : List Float) (k : Clock) (t : List ℕ) where
   refusal : (a : Answer) → a ≡ saveAnswer m p state k t → (a .number ≡ 0 → ⊥) → saveOut a t ≡ saveOf m p state k t
   unfolding saveOf

@@ -10,36 +10,29 @@ use lib.ListN.{length, take, drop, length-drop, drop-of-length-le}
 use lib.Seq.{take-all, take-nil, drop-length}
 use Rattle.lists.specs.declared.rows.Answer.{Answer}
 use Rattle.lists.specs.Scan.{row, _then_}
+use Rattle.frames.specs.Frames.{digitsOf}
 use Rattle.frames.specs.Reading.{value, fault}
 use Rattle.frames.proofs.BackLaws.{value-small}
-use Rattle.saves.specs.Lines.{dueKind, due, startOf}
+use Rattle.saves.specs.Lines.{nodeLayout, endLayout, layoutAt, due, startOf}
 use Rattle.saves.specs.Load.{lineAt, row23, lineRows}
 use Rattle.saves.proofs.LineLaws.{start-node}
 
 -- ---- what is due at a node's line, and at the last
-pub due-node : (n j : ℕ) → (j ≡ 0 → ⊥) → j ≤ n → due n j ≡ 72
-due-node n zero h l = absurd (h refl)
-due-node n (suc i) h l = rw (lt-ltb i n l)
+pub layout-node : (n j : ℕ) → (j ≡ 0 → ⊥) → j ≤ n → layoutAt n j ≡ nodeLayout
+layout-node n zero h l = absurd (h refl)
+layout-node n (suc i) h l = rw (lt-ltb i n l)
 
-pub due-last : (n j : ℕ) → n < j → due n j ≡ 12
-due-last n zero l = absurd (omega arith)
-due-last n (suc i) l = rw (le-ltb i n (omega arith))
+pub layout-last : (n j : ℕ) → n < j → layoutAt n j ≡ endLayout
+layout-last n zero l = absurd (omega arith)
+layout-last n (suc i) l = rw (le-ltb i n (omega arith))
 
 pub due-most : (n j : ℕ) → due n j ≤ 72
 due-most n zero = omega arith
 due-most n (suc i) = go (ltb i n)
   where
-    go : (b : Bool) → cond b 72 12 ≤ 72
+    go : (b : Bool) → digitsOf (cond b nodeLayout endLayout .widths) ≤ 72
     go true = omega arith
     go false = omega arith
-
-pub kind-node : (n j : ℕ) → (j ≡ 0 → ⊥) → j ≤ n → dueKind n j ≡ 2
-kind-node n zero h l = absurd (h refl)
-kind-node n (suc i) h l = rw (lt-ltb i n l)
-
-pub kind-last : (n j : ℕ) → n < j → dueKind n j ≡ 3
-kind-last n zero l = absurd (omega arith)
-kind-last n (suc i) l = rw (le-ltb i n (omega arith))
 
 pub start-is : (n j : ℕ) → (j ≡ 0 → ⊥) → j ≤ n + 1 → 57 + 73 * (j - 1) ≡ startOf n j
 start-is n zero h l = absurd (h refl)
@@ -54,7 +47,7 @@ count-line n e line zero h = absurd (h refl)
 count-line n e line (suc i) h = refl
 
 -- ---- the rows of line j, of which all that the code has at hand is as due
-pub line-rows : (n e : ℕ) (t : List ℕ) (j : ℕ) {line : List ℕ} {d k : ℕ} {a b : Answer} → line ≡ lineAt n t j → d ≡ due n j → k ≡ dueKind n j
+pub line-rows : (n e : ℕ) (t : List ℕ) (j : ℕ) {line : List ℕ} {d k : ℕ} {a b : Answer} → line ≡ lineAt n t j → d ≡ due n j → k ≡ layoutAt n j .kind
     → a ≡ fault line d k j j → b ≡ row23 n e line j → (a then b) ≡ lineRows n e t j
 unfolding lineRows
 line-rows n e t j el ed ek ea eb = (λ i. ea i then eb i) ∙ (λ i. fault (el i) (ed i) (ek i) j j then row23 n e (el i) j)

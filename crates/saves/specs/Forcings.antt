@@ -5,10 +5,11 @@ use mathlib.Core.Bool.{cond}
 use mathlib.Core.List.{List}
 use lib.Dec.{eqb}
 use Rattle.lists.specs.Scan.{plus0}
+use Rattle.frames.specs.Frames.{digitsOf, byteOf}
 use Rattle.frames.specs.Reading.{fault}
 use Rattle.surge.specs.declared.Forcing.{Forcing}
 use Rattle.saves.specs.declared.Taken.{Taken}
-use Rattle.saves.specs.Lines.{forcingLayout, byteOf, digitsOf}
+use Rattle.saves.specs.Lines.{forcingLayout}
 use Rattle.saves.specs.Load.{float}
 
 abbrev pub still : Forcing

@@ -4,7 +4,7 @@ use mathlib.Core.List.{List, [], _∷_}
 use mathlib.Core.Bool.{cond}
 use lib.Dec.{ltb}
 use lib.Ieee.{Float, binary64, toBits}
-use Rattle.frames.specs.Frames.{Field, Frame, wide}
+use Rattle.frames.specs.Frames.{Field, Frame, wide, digitsOf}
 use Rattle.surge.specs.declared.Clock.{Clock}
 use Rattle.surge.specs.State.{inRun}
 
@@ -42,17 +42,6 @@ laidOut (w ∷ ws) (v ∷ vs) = wide w v ∷ laidOut ws vs
 abbrev pub line : Layout → ℕ → List ℕ → Frame
 line l sequence values = record { kind = l .kind; sequence = sequence; fields = laidOut (l .widths) values }
 
--- "56 digits", "72 digits", "12 digits": two for each byte of kind, sequence, fields and check byte
-abbrev pub digitsOf : List ℕ → ℕ
-digitsOf [] = 8
-digitsOf (w ∷ ws) = 2 * w + digitsOf ws
-
--- the byte of a line at which field j starts: past kind and sequence, and the fields before it
-abbrev pub byteOf : List ℕ → ℕ → ℕ
-byteOf ws zero = 3
-byteOf [] (suc j) = 3
-byteOf (w ∷ ws) (suc j) = w + byteOf ws j
-
 -- ---- the lines of a save
 -- "sequence 0"
 abbrev pub head : ℕ → ℕ → Clock → Frame
@@ -69,14 +58,14 @@ nodeLine i values = line nodeLayout (i + 1) values
 abbrev pub end : ℕ → Frame
 end n = line endLayout (n + 1) (n ∷ [])
 
--- ---- what is due at line j of a save of n nodes
-abbrev pub dueKind : ℕ → ℕ → ℕ
-dueKind n zero = headLayout .kind
-dueKind n (suc i) = cond (ltb i n) (nodeLayout .kind) (endLayout .kind)
+-- ---- what is due at line j of a save of n nodes: "head, nodes, end"
+abbrev pub layoutAt : ℕ → ℕ → Layout
+layoutAt n zero = headLayout
+layoutAt n (suc i) = cond (ltb i n) nodeLayout endLayout
 
+-- "56 digits", "72 digits", "12 digits"
 abbrev pub due : ℕ → ℕ → ℕ
-due n zero = digitsOf (headLayout .widths)
-due n (suc i) = cond (ltb i n) (digitsOf (nodeLayout .widths)) (digitsOf (endLayout .widths))
+due n j = digitsOf (layoutAt n j .widths)
 
 -- the lines before line j, as characters: where it starts
 unfoldable pub startOf : ℕ → ℕ → ℕ

@@ -12,13 +12,14 @@ use Rattle.lists.specs.Runs.{isRuns, room}
 use Rattle.lists.specs.Scan.{row, _then_, scan}
 use Rattle.equations.specs.declared.Parameters.{Parameters}
 use Rattle.equations.specs.declared.Node.{Node}
+use Rattle.frames.specs.Frames.{byteOf}
 use Rattle.frames.specs.Reading.{value, fault}
 use Rattle.surge.specs.declared.Clock.{Clock}
 use Rattle.surge.specs.Lent.{Mesh, N, E, After, after}
 use Rattle.surge.specs.Rows.{rows1to9}
 use Rattle.limits.specs.Limits.{inBounds, row12Held}
 use Rattle.surge.specs.State.{windOf}
-use Rattle.saves.specs.Lines.{headLayout, nodeLayout, endLayout, byteOf, dueKind, due, startOf, saveLength}
+use Rattle.saves.specs.Lines.{headLayout, nodeLayout, endLayout, layoutAt, due, startOf, saveLength}
 
 -- line j of a text, as much of it as there is: "a missing line being of wrong length"
 abbrev pub lineAt : ℕ → List ℕ → ℕ → List ℕ
@@ -35,7 +36,7 @@ row23 n e line (suc i) = row (ltb i n || eqb (value line (byteOf (endLayout .wid
 
 -- "in each 20, 21, 22, 23"
 unfoldable pub lineRows : ℕ → ℕ → List ℕ → ℕ → Answer
-lineRows n e t j = fault (lineAt n t j) (due n j) (dueKind n j) j j then row23 n e (lineAt n t j) j
+lineRows n e t j = fault (lineAt n t j) (due n j) (layoutAt n j .kind) j j then row23 n e (lineAt n t j) j
 
 -- the head's clock, and the values of node i
 unfoldable pub clockOf : ℕ → List ℕ → Clock

@@ -10,7 +10,7 @@ ghost use mathlib.Core.Path.{_≡_};
 ghost use Prim.Native.Nat.{_+_, _-_, _*_, _<_, _≤_};
 ghost use lib.ListN.{length, take, drop, set};
 ghost use Rattle.lists.specs.Scan.{scan};
-ghost use Rattle.saves.specs.Lines.{dueKind, due, startOf};
+ghost use Rattle.saves.specs.Lines.{layoutAt, due, startOf};
 ghost use Rattle.saves.specs.Load.{lineAt, row23, lineRows, clockOf, loadedNode, row10Read, textRows, loadedState};
 
 // Where a line stands in a text.
@@ -19,24 +19,33 @@ struct Span {
     to: usize,
 }
 
-// The digits due at line j: head, nodes, end.
-fn due(n: usize, j: usize) -> usize
-    ensures { λ r. ⌜ r ≡ due n j ⌝ }
-{
-    if j == 0 {
-        return 56;
-    }
-    if j <= n { 72 } else { 12 }
+// A kind of line: its digits and its kind byte.
+struct LineKind {
+    digits: usize,
+    kind: u8,
 }
 
-// The kind due at line j.
-fn due_kind(n: usize, j: usize) -> u8
-    ensures { λ r. ⌜ r ≡ dueKind n j ⌝ }
+// What is due at line j: head, nodes, end.
+fn due(n: usize, j: usize) -> LineKind
+    ensures { λ r. ⌜ (r .digits ≡ due n j) × (r .kind ≡ layoutAt n j .kind) ⌝ }
 {
     if j == 0 {
-        return 1;
+        return LineKind {
+            digits: 56,
+            kind: 1,
+        };
     }
-    if j <= n { 2 } else { 3 }
+    if j <= n {
+        LineKind {
+            digits: 72,
+            kind: 2,
+        }
+    } else {
+        LineKind {
+            digits: 12,
+            kind: 3,
+        }
+    }
 }
 
 // Where line j starts: past a head of 57 bytes and nodes of 73.
@@ -57,7 +66,7 @@ fn standing(n: usize, text: &[u8], j: usize) -> Span
 {
     let long = text.len();
     let from = start(n, j);
-    let to = from + (due(n, j) + 1);
+    let to = from + (due(n, j).digits + 1);
     if long < from {
         return Span {
             from: long,
@@ -90,7 +99,8 @@ fn line_row(n: usize, e: usize, text: &[u8], j: usize) -> Answer
     let from = at.from;
     let to = at.to;
     let line = &text[from..to];
-    let fault = reading::fault(line, due(n, j), due_kind(n, j), j as u64, j);
+    let its = due(n, j);
+    let fault = reading::fault(line, its.digits, its.kind, j as u64, j);
     rows::first(fault, counts(n, e, line, j))
 }
 

@@ -8,7 +8,7 @@ use Rattle.equations.specs.Elevation.{z*, H as Hi, qx, qy, mean, slope, means, 
 use Rattle.equations.specs.Velocity.{H, H′, r, p, m, q, gx, gy, wx, wy, Rx, Ry, n, U′, V′, flow}
 use Rattle.equations.specs.Outcomes.{level, speed}
 use Rattle.frames.specs.Bytes.{digit, digits, byte, bytes, worth, allDigits, field, number, sum, check}
-use Rattle.frames.specs.Frames.{text, fieldBytes, checked, fieldsOf}
+use Rattle.frames.specs.Frames.{text, fieldBytes, checked}
 use Rattle.frames.specs.Reading.{value, isFramed, row20, row21, row22, fault}
 use Rattle.limits.specs.Limits.{isSound, row9, inBounds, row11, row12Held, row12New}
 use Rattle.surge.specs.Geometry.{sides, allNear, area, floats}
@@ -42,7 +42,7 @@ unfolding sides area floats riseOf flowOf sharesAt rise slopeX slopeY flowAt nex
 the-equations = tt
 
 unfoldable pub the-frames : Unit {0}
-unfolding digit digits byte bytes worth allDigits field number sum check text fieldBytes checked fieldsOf value isFramed row20 row21 row22 fault
+unfolding digit digits byte bytes worth allDigits field number sum check text fieldBytes checked value isFramed row20 row21 row22 fault
 the-frames = tt
 
 unfoldable pub the-calls : Unit {0}

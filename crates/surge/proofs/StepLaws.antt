@@ -1,7 +1,7 @@
 -- A step's outcomes: refused before anything is worked out, refused by 13, and gone on.
 use Prim.Native.Nat.{ℕ, _*_}
 use mathlib.Core.Path.{_≡_, sym, ap, _∙_}
-use mathlib.Core.Bool.{true, false, cond, _&&_, not}
+use mathlib.Core.Bool.{true, cond, _&&_, not}
 use mathlib.Core.List.{List}
 use native.Mathlib.Nat.{one-mul}
 use borrow.Author.Tests.{eqb-true, eqb-false, eq-eqb, ne-eqb, not-true}
@@ -14,14 +14,12 @@ use Rattle.lists.specs.Runs.{isRuns}
 use Rattle.lists.proofs.ScanLaws.{row-passed, then-first, then-rest, same-number, other-number, both-left, both-right}
 use Rattle.surge.specs.declared.Clock.{Clock}
 use Rattle.surge.specs.Lent.{N}
-use Rattle.surge.specs.Rows.{rows1to9}
-use Rattle.surge.specs.Accepted.{Accepted}
 use Rattle.limits.specs.Limits.{row11}
-use Rattle.surge.specs.State.{rows1to10, advanced}
+use Rattle.surge.specs.State.{advanced}
 use Rattle.surge.specs.Equations.{nextState}
 use Rattle.surge.specs.Step.{Given, seaOf, advance, before13, row13, Rooms, roomy, cleared, stepOut, refusedBefore, refusedBy13, wentOn, stepsTo, stepOf}
 use Rattle.surge.specs.Passes.{Solving, solving, SolvingFits}
-use Rattle.surge.proofs.AcceptedLaws.{accepted, accepted-rooms}
+use Rattle.surge.proofs.StateLaws.{AcceptedRun, accepted-run}
 
 abbrev pub solvingOf : Given → Solving
 solvingOf g = solving (seaOf g) (g .mesh .kind) (g .forcing)
@@ -48,32 +46,16 @@ module _ (g : Given) (r : Rooms) where
 
   -- ---- what is known past rows 1 to 12
   module _ (ok : before13 (roomy r (N (g .mesh))) g .number ≡ 0) where
-    to-10 : rows1to10 (roomy r (N (g .mesh))) (g .mesh) (g .p) (g .state) .number ≡ 0
+    run : AcceptedRun (roomy r (N (g .mesh))) (g .mesh) (g .p) (g .state)
     unfolding before13
-    to-10 = then-first _ _ ok
-
-    to-9 : rows1to9 (isRuns (length (g .state)) 4 (N (g .mesh)) && roomy r (N (g .mesh))) false (g .mesh) (g .p) .number ≡ 0
-    unfolding rows1to10
-    to-9 = then-first _ _ to-10
-
-    pub mesh-accepted : Accepted (g .mesh) (g .p)
-    mesh-accepted = accepted _ _ _ _ to-9
-
-    all-rooms : (isRuns (length (g .state)) 4 (N (g .mesh)) && roomy r (N (g .mesh))) ≡ true
-    all-rooms = accepted-rooms _ _ _ _ to-9
+    run = accepted-run _ _ _ _ (then-first _ _ ok)
 
     -- the depths are as many as the nodes
     depths : length (g .mesh .h) ≡ N (g .mesh)
-    depths = mesh-accepted .sized .h
-
-    state-long : length (g .state) ≡ 4 * N (g .mesh)
-    state-long = eqb-true _ _ (both-left _ (roomy r (N (g .mesh))) all-rooms)
-
-    others : roomy r (N (g .mesh)) ≡ true
-    others = both-right (isRuns (length (g .state)) 4 (N (g .mesh))) _ all-rooms
+    depths = run .mesh .sized .h
 
     first-two : (isRuns (length (r .next)) 4 (N (g .mesh)) && isRuns (length (r .work)) 3 (N (g .mesh))) ≡ true
-    first-two = both-left _ (isRuns (length (r .sums)) 1 (N (g .mesh))) others
+    first-two = both-left _ (isRuns (length (r .sums)) 1 (N (g .mesh))) (run .others)
 
     pub next-long : length (r .next) ≡ 4 * length (g .mesh .h)
     next-long = eqb-true _ _ (both-left _ (isRuns (length (r .work)) 3 (N (g .mesh))) first-two) ∙ ap (λ (n : ℕ). 4 * n) (sym depths)
@@ -83,19 +65,19 @@ module _ (g : Given) (r : Rooms) where
 
     pub sums-long : length (r .sums) ≡ length (g .mesh .h)
     sums-long =
-        eqb-true _ _ (both-right (isRuns (length (r .next)) 4 (N (g .mesh)) && isRuns (length (r .work)) 3 (N (g .mesh))) _ others)
+        eqb-true _ _ (both-right (isRuns (length (r .next)) 4 (N (g .mesh)) && isRuns (length (r .work)) 3 (N (g .mesh))) _ (run .others))
         ∙ one-mul (N (g .mesh))
         ∙ sym depths
 
     pub solving-fits : SolvingFits (solvingOf g)
     solving-fits =
-        let a = mesh-accepted in
+        let a = run .mesh in
         record {
           ready = record {
             x = sym depths;
             y = a .sized .y;
             tri = a .sized .tri;
-            state = state-long ∙ ap (λ (n : ℕ). 4 * n) (sym depths);
+            state = run .long ∙ ap (λ (n : ℕ). 4 * n) (sym depths);
             few = a .sized .most-triangles;
             sound = a .triangles;
           };

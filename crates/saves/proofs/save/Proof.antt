@@ -7,8 +7,9 @@ use Rattle.lists.proofs.ScanLaws.{same-number}
 use Rattle.surge.specs.Lent.{Mesh, mesh, N}
 use Rattle.limits.specs.Limits.{row12Held}
 use Rattle.surge.specs.State.{rows1to10, windOf}
+use Rattle.surge.proofs.StateLaws.{accepted-run}
 use Rattle.saves.specs.Save.{row24}
-use Rattle.saves.proofs.SaveLaws.{stopped, few, state-long, stopped-after, roomy, saved}
+use Rattle.saves.proofs.SaveLaws.{stopped, stopped-after, roomy, saved}
 use borrow.Author.Needs.{needs}
 use Rattle.saves.proofs.save.Statement.{statement}
 use Rattle.saves.proofs.save.Tie as tie
@@ -37,10 +38,10 @@ returns c =
     stopped (net (start k)) _ _ (start k .args .clock) _ _ (k .rows-to-10 .ensures) (c .if1 .taken)
 
 mul-room : tie.Need-mul-room
-mul-room c = omega (arith, few _ _ _ (passed c))
+mul-room c = omega (arith, accepted-run _ _ _ _ (passed c) .mesh .sized .most-nodes)
 
 add-room : tie.Need-add-room
-add-room c = omega (arith, few _ _ _ (passed c))
+add-room c = omega (arith, accepted-run _ _ _ _ (passed c) .mesh .sized .most-nodes)
 
 tested-requires : tie.Need-tested-requires
 tested-requires c κs = search needs
@@ -61,7 +62,8 @@ write-requires c κs =
     let f = c .before .before .before in
     let e = f .before .before .before in
     let ok = passed e in
-    (few _ _ _ ok, state-long _ _ _ ok, roomy _ _ _ (start (e .before .before) .args .clock) _ ok _ (rest f) (c .before .if2 .left))
+    let run = accepted-run _ _ _ _ ok in
+    (run .mesh .sized .most-nodes, run .long, roomy _ _ _ (start (e .before .before) .args .clock) _ ok _ (rest f) (c .before .if2 .left))
 
 same-length : tie.Need-same-length
 same-length c = search needs

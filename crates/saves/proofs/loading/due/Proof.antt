@@ -1,18 +1,17 @@
-use mathlib.Core.Path.{sym}
+use mathlib.Core.Path.{refl}
 use native.Mathlib.Omega.{arith}
-use Rattle.saves.proofs.SpanLaws.{due-node, due-last}
-use borrow.Author.Needs.{needs}
+use Rattle.saves.proofs.SpanLaws.{layout-node, layout-last}
 use Rattle.saves.proofs.loading.due.Statement.{statement}
 use Rattle.saves.proofs.loading.due.Tie as tie
 
 returns : tie.Need-returns
-returns c = search needs
+returns c = rw (c .if1 .taken) (refl, refl)
 
 returns-2 : tie.Need-returns-2
-returns-2 c = let a = c .before .before .args in sym (due-node (a .n) (a .j) (c .before .if1 .left) (c .if2 .taken))
+returns-2 c = let a = c .before .before .args in rw (layout-node (a .n) (a .j) (c .before .if1 .left) (c .if2 .taken)) (refl, refl)
 
 returns-3 : tie.Need-returns-3
-returns-3 c = let a = c .before .before .args in sym (due-last (a .n) (a .j) (omega arith))
+returns-3 c = let a = c .before .before .args in rw (layout-last (a .n) (a .j) (omega arith)) (refl, refl)
 
 pub due-spec : {M : Type 1} → statement M
 due-spec = tie.close (tie.spec returns returns-2 returns-3)

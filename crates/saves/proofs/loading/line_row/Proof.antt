@@ -19,9 +19,6 @@ part-line-end c = search needs
 due-requires : tie.Need-due-requires
 due-requires c κs = search needs
 
-due-kind-requires : tie.Need-due-kind-requires
-due-kind-requires c κs = search needs
-
 fault-requires : tie.Need-fault-requires
 fault-requires c κs = search needs
 
@@ -34,12 +31,11 @@ first-requires c κs = search needs
 returns : tie.Need-returns
 returns c =
     let f = c .before .before in
-    let k = f .before in
-    let d = k .before in
+    let d = f .before in
     let s = d .before .before in
     let a = s .before .before .args in
     c .first .ensures
-    ∙ line-rows (a .n) (a .e) (a .text .now) (a .j) (s .standing .ensures .2) (d .due .ensures) (k .due-kind .ensures) (f .fault .ensures) (c .before .counts .ensures)
+    ∙ line-rows (a .n) (a .e) (a .text .now) (a .j) (s .standing .ensures .2) (d .due .ensures .0) (d .due .ensures .1) (f .fault .ensures) (c .before .counts .ensures)
 
 pub line-row-spec : {M : Type 1} → statement M
 line-row-spec =
@@ -50,7 +46,6 @@ line-row-spec =
     part-line-start
     part-line-end
     due-requires
-    due-kind-requires
     fault-requires
     counts-requires
     first-requires

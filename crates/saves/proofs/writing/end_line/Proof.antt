@@ -1,5 +1,7 @@
+use lib.Dec.{lit<}
 use Rattle.frames.specs.Building.{withFields}
-use Rattle.saves.proofs.LineLaws.{end-built}
+use Rattle.frames.proofs.FrameLaws.{built}
+use Rattle.saves.specs.Lines.{end}
 use borrow.Author.Needs.{needs}
 use Rattle.saves.proofs.writing.end_line.Statement.{statement}
 use Rattle.saves.proofs.writing.end_line.Tie as tie
@@ -19,7 +21,7 @@ seal-requires c κs = search needs
 returns : tie.Need-returns
 unfolding withFields
 returns c =
-    rw (c .seal .ensures, c .before .append .ensures, c .before .before .begin .ensures) (end-built (c .before .before .before .args .n))
+    rw (c .seal .ensures, c .before .append .ensures, c .before .before .begin .ensures) (built (end (c .before .before .before .args .n)) (lit< tt))
 
 pub end-line-spec : {M : Type 1} → statement M
 end-line-spec = tie.close (tie.spec add-begin begin-requires append-requires seal-requires returns)

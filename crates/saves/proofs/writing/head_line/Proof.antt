@@ -1,5 +1,7 @@
+use lib.Dec.{lit<}
 use Rattle.frames.specs.Building.{withFields}
-use Rattle.saves.proofs.LineLaws.{head-built}
+use Rattle.frames.proofs.FrameLaws.{built}
+use Rattle.saves.specs.Lines.{head}
 use borrow.Author.Needs.{needs}
 use Rattle.saves.proofs.writing.head_line.Statement.{statement}
 use Rattle.saves.proofs.writing.head_line.Tie as tie
@@ -51,7 +53,7 @@ returns c =
       b .before .append .ensures,
       b .before .before .begin .ensures,
     )
-    (head-built (a .n) (a .e) (a .clock))
+    (built (head (a .n) (a .e) (a .clock)) (lit< tt))
 
 pub head-line-spec : {M : Type 1} → statement M
 head-line-spec =

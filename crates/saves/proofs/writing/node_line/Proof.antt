@@ -1,14 +1,14 @@
-use Prim.Native.Nat.{_+_, _*_}
+use Prim.Native.Nat.{ℕ, _+_, _*_}
 use mathlib.Core.Path.{_≡_}
+use mathlib.Core.List.{[], _∷_}
 use native.Mathlib.Nat.{zero-mul, one-mul}
 use native.Mathlib.Omega.{arith}
+use lib.Dec.{lit<}
 use lib.ListN.{getD}
 use lib.Ieee.{nan}
-use Rattle.frames.specs.Frames.{fieldsOf}
 use Rattle.frames.specs.Building.{withFields}
-use Rattle.surge.specs.State.{inRun}
-use Rattle.saves.specs.Lines.{bits}
-use Rattle.saves.proofs.LineLaws.{node-built}
+use Rattle.frames.proofs.FrameLaws.{built}
+use Rattle.saves.specs.Lines.{nodeLine, bits}
 use borrow.Author.Needs.{needs}
 use Rattle.saves.proofs.writing.node_line.Statement.{statement}
 use Rattle.saves.proofs.writing.node_line.Tie as tie
@@ -86,13 +86,13 @@ seal-requires : tie.Need-seal-requires
 seal-requires c κs = search needs
 
 returns : tie.Need-returns
-unfolding withFields fieldsOf
+unfolding withFields
 returns c =
     let d = c .before .before .before .before in
     let e = d .before .before .before in
     let f = e .before .before .before in
     let a = f .before .before .before .before .before .args in
-    let s = a .state .now in
+    let v : ℕ → ℕ = λ k. bits (getD (a .state .now) k nan) in
     let here : a .i ≡ 0 * a .n + a .i = omega (arith, zero-mul (a .n)) in
     let next : a .n + a .i ≡ 1 * a .n + a .i = omega (arith, one-mul (a .n)) in
     rw (
@@ -109,7 +109,7 @@ returns c =
       ← here,
       ← next,
     )
-    (node-built (a .i) (bits (getD s (a .i) nan)) (bits (getD s (a .n + a .i) nan)) (bits (inRun (a .n) 2 s (a .i))) (bits (inRun (a .n) 3 s (a .i))))
+    (built (nodeLine (a .i) (v (a .i) ∷ v (a .n + a .i) ∷ v (2 * a .n + a .i) ∷ v (3 * a .n + a .i) ∷ [])) (lit< tt))
 
 pub node-line-spec : {M : Type 1} → statement M
 node-line-spec =
