@@ -12,7 +12,7 @@ use lib.Signed.{ltZ}
 use lib.ListN.{length, getD}
 use lib.Ieee.{nan}
 use Rattle.lists.specs.Gather.{Below, alike}
-use Rattle.lists.specs.Scan.{row, _then_, scan, within, decimal}
+use Rattle.lists.specs.Scan.{_then_, scan, within, decimal}
 use Rattle.lists.proofs.ScanLaws.{row-passed, then-first, then-rest, then-assoc, scan-clean, both-left, both-right}
 use Rattle.lists.proofs.GatherLaws.{gathered-le}
 use Rattle.equations.specs.declared.Parameters.{Parameters}

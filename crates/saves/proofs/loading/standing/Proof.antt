@@ -29,7 +29,8 @@ add-to-2 : tie.Need-add-to-2
 add-to-2 c =
     let d = c .before in
     let s = d .before .before .before in
-    omega (arith, d .due .ensures .0, due-most (s .args .n) (s .args .j), d .before .start .ensures, s .pre .0, start-below (s .args .n) (s .args .j) (omega (arith, s .pre .1)))
+    let below = start-below (s .args .n) (s .args .j) (omega (arith, s .pre .1)) in
+    omega (arith, d .due .ensures .0, due-most (s .args .n) (s .args .j), d .before .start .ensures, s .pre .0, below)
 
 returns : tie.Need-returns
 returns c =
