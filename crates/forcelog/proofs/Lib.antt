@@ -1,0 +1,2 @@
+pub mod LogLaws
+pub mod MeshLaws

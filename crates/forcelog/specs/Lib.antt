@@ -1,0 +1,2 @@
+pub mod MeshT
+pub mod Log
