@@ -1,2 +1,3 @@
 pub mod LogLaws
 pub mod MeshLaws
+pub mod WordLaws

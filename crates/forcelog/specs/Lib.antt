@@ -1,2 +1,3 @@
 pub mod MeshT
 pub mod Log
+pub mod Printed

@@ -6,7 +6,10 @@ use surge::Forcing;
 ghost use mathlib.Core.Path.{_≡_};
 ghost use Rattle.saves.specs.Save.{saveOut};
 ghost use Rattle.forcelog.specs.Log.{coldLog, stepped, refusedAt, afterStep, takeOf, endOf};
-ghost use Prim.Native.Nat.{_<_};
+ghost use Rattle.forcelog.specs.Printed.{refusal, words};
+ghost use Rattle.frames.specs.Building.{laid};
+ghost use lib.ListN.{length};
+ghost use Prim.Native.Nat.{_<_, _≤_, _+_};
 
 // Mesh T.
 const X: [i32; 3] = [0, 100, 0];
@@ -32,6 +35,12 @@ pub struct Log {
 pub struct Took {
     pub answer: Answer,
     pub log: Log,
+}
+
+// A text while it is printed: its bytes, 0 past its length.
+pub struct Words {
+    pub bytes: [u8; 53],
+    pub len: usize,
 }
 
 // Mesh T opened, and no line taken.
@@ -106,4 +115,33 @@ pub fn end(text: &mut [u8], log: Log) -> Answer
 {
     let state = log.state;
     saves::save(text, &state, &X, &Y, &TRI, &H, &KIND, P, log.clock)
+}
+
+// Writes `part` over the text from `at` on, and hands back the place after it.
+fn put(text: &mut [u8], at: usize, part: &[u8]) -> usize
+    requires { ⌜ at + length (now part) ≤ length (now text) ⌝ }
+    ensures { λ r. ⌜ (r ≡ at + length (now (part .entry))) × (now (text .exit) ≡ laid (now (text .entry)) at (now (part .entry))) ⌝ }
+{
+    let n = part.len();
+    for k in 0..n {
+        text[at + k] = part[k];
+    }
+    at + n
+}
+
+// `refused R at P` and a line feed.
+pub fn refusal(answer: Answer) -> Words
+    ensures { λ r. ⌜ r ≡ words (refusal answer) ⌝ }
+{
+    let mut bytes = [0u8; 53];
+    let mut number = [0u8; 20];
+    let mut place = [0u8; 20];
+    let r = io::decimal(answer.number as u64, &mut number);
+    let p = io::decimal(answer.place as u64, &mut place);
+    let at = put(&mut bytes, 0, b"refused ");
+    let at = put(&mut bytes, at, &number[..r]);
+    let at = put(&mut bytes, at, b" at ");
+    let at = put(&mut bytes, at, &place[..p]);
+    let len = put(&mut bytes, at, b"\n");
+    Words { bytes, len }
 }
