@@ -1,3 +1,4 @@
 pub mod LogLaws
 pub mod MeshLaws
 pub mod WordLaws
+pub mod PieceLaws
