@@ -1,0 +1,77 @@
+-- The save at the end is never refused: a cold log can be saved, and so can each log that a line was taken into.
+use Prim.Native.Nat.{ℕ}
+use mathlib.Core.Path.{_≡_, refl, sym, ap, _∙_}
+use mathlib.Core.Bool.{Bool, true, false}
+use mathlib.Core.List.{List, [], append-nil}
+use borrow.Author.Tests.{eqb-true, eqb-false, eq-eqb, ne-eqb}
+use lib.Dec.{eqb}
+use lib.ListN.{length, drop}
+use lib.Seq.{drop-length}
+use lib.Ieee.{round, le, lt, eq, add}
+use Rattle.lists.specs.declared.rows.Answer.{Answer}
+use Rattle.lists.specs.Table.{table}
+use Rattle.lists.specs.Scan.{accepted, row, _then_, scan, some, within, decimal, minus}
+use Rattle.lists.proofs.ScanLaws.{row-holds, same-number, goes}
+use Rattle.surge.specs.Geometry.{sides, allNear}
+use Rattle.surge.specs.Rows.{row1, row2, allBelow, row3, row4, row5, rows3to5, isLeg, row6, row6If, isNamed, row7, row8, row9, rows1to9}
+use Rattle.surge.specs.State.{inBounds, row10, rows1to10, row12Held}
+use Rattle.surge.specs.Step.{Given, given, Rooms, StepOut, seaOf, advance, before13, row13, roomy, wentOn, stepsTo, stepOf}
+use Rattle.surge.specs.Lent.{N}
+use Rattle.saves.specs.Forcings.{takenOf}
+use Rattle.saves.specs.Save.{row24, saveAnswer, saveOut, wrote, saveOf}
+use Rattle.forcelog.specs.declared.Log.{Log}
+use Rattle.forcelog.specs.declared.Took.{Took}
+use Rattle.forcelog.specs.MeshT.{T, T-parameters}
+use Rattle.forcelog.specs.Log.{coldLog, rooms, stepped, gone, takeOf, endOf}
+use Rattle.forcelog.specs.Printed.{ending}
+use Rattle.forcelog.specs.Kept.{Kept}
+use Rattle.forcelog.proofs.LogLaws.{step-accepted, took-step}
+use Rattle.forcelog.proofs.StepKeeps.{next-rows, next-wind}
+
+pub cold-kept : Kept coldLog
+unfolding coldLog rows1to10 row10 inBounds row12Held T T-parameters table row _then_ scan some within decimal minus round le lt eq add sides allNear row1 row2 allBelow row3 row4 row5 rows3to5 isLeg row6 row6If isNamed row7 row8 row9 rows1to9
+cold-kept = record { rows = refl; wind = refl }
+
+-- ---- an accepted step
+module _ (g : Given) (r : Rooms) (h : stepOf g r .reply .answer .number ≡ 0) where
+  abbrev first : Answer
+  first = before13 (roomy r (N (g .mesh))) g
+
+  abbrev last : Answer
+  last = row13 (seaOf g) (g .mesh .kind) (g .forcing)
+
+  both : (first .number ≡ 0) × (last .number ≡ 0) × (stepOf g r ≡ wentOn g last)
+  unfolding stepOf stepsTo
+  both = go (eqb (first .number) 0) (eqb (last .number) 0) refl refl
+    where
+      go : (a b : Bool) → eqb (first .number) 0 ≡ a → eqb (last .number) 0 ≡ b → (first .number ≡ 0) × (last .number ≡ 0) × (stepOf g r ≡ wentOn g last)
+      go true true p q = (eqb-true _ _ p, eqb-true _ _ q, rw (p, q))
+      go true false p q = absurd (eqb-false _ _ q (rw (p, q) at h))
+      go false b p q = absurd (eqb-false _ _ p (rw p at h))
+
+  pub step-rows : rows1to10 true (g .mesh) (g .p) (stepOf g r .rooms .next) .number ≡ 0
+  unfolding advance
+  step-rows = rw (both .2) (next-rows g r (both .0) (both .1))
+
+  pub step-wind : row12Held (stepOf g r .reply .clock) .number ≡ 0
+  unfolding advance
+  step-wind = rw (both .2) (next-wind g r (both .0) (both .1))
+
+pub take-kept : (line : List ℕ) (log : Log) → takeOf line log .answer .number ≡ 0 → Kept (takeOf line log .log)
+unfolding stepped
+take-kept line log h =
+    let g = given T T-parameters (log .state) (log .clock) (takenOf line (log .lines) .forcing) in
+    let ok = step-accepted line log h in
+    rw (took-step line log h) (record { rows = step-rows g rooms ok; wind = step-wind g rooms ok })
+
+-- ---- the save of a log that can be saved, in a room of its length, is the whole text
+module _ (log : Log) (k : Kept log) (t : List ℕ) (long : length t ≡ 289) where
+  answered : saveAnswer T T-parameters (log .state) (log .clock) t ≡ accepted
+  unfolding saveAnswer row24 T
+  answered = sym (goes _ (k .rows) (goes _ (k .wind) (sym (row-holds 24 289 (rw long)))))
+
+  pub end-kept : endOf log t ≡ saveOut (wrote 289) (ending log)
+  unfolding endOf saveOf T
+  end-kept =
+      let none : drop 289 t ≡ [] = ap (λ (n : ℕ). drop n t) (sym long) ∙ drop-length t in
+      rw (eq-eqb _ _ (same-number (sym answered) refl)) (rw (none, append-nil))
