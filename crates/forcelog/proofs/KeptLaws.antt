@@ -1,10 +1,10 @@
 -- The save at the end is never refused: a cold log can be saved, and so can each log that a line was taken into.
-use Prim.Native.Nat.{ℕ}
+use Prim.Native.Nat.{ℕ, _+_, _<_, _≤_}
 use mathlib.Core.Path.{_≡_, refl, sym, ap, _∙_}
 use mathlib.Core.Bool.{Bool, true, false}
 use mathlib.Core.List.{List, [], append-nil}
 use borrow.Author.Tests.{eqb-true, eqb-false, eq-eqb, ne-eqb}
-use lib.Dec.{eqb}
+use lib.Dec.{eqb, lit≤}
 use lib.ListN.{length, drop}
 use lib.Seq.{drop-length}
 use lib.Ieee.{round, le, lt, eq, add}
@@ -25,12 +25,16 @@ use Rattle.forcelog.specs.MeshT.{T, T-parameters}
 use Rattle.forcelog.specs.Log.{coldLog, rooms, stepped, gone, takeOf, endOf}
 use Rattle.forcelog.specs.Printed.{ending}
 use Rattle.forcelog.specs.Kept.{Kept}
-use Rattle.forcelog.proofs.LogLaws.{step-accepted, took-step}
+use Rattle.forcelog.proofs.LogLaws.{step-accepted, took-step, counted}
 use Rattle.forcelog.proofs.StepKeeps.{next-rows, next-wind}
 
 pub cold-kept : Kept coldLog
 unfolding coldLog rows1to10 row10 inBounds row12Held T T-parameters table row _then_ scan some within decimal minus round le lt eq add sides allNear row1 row2 allBelow row3 row4 row5 rows3to5 isLeg row6 row6If isNamed row7 row8 row9 rows1to9
 cold-kept = record { rows = refl; wind = refl }
+
+pub cold-lines : coldLog .lines ≤ 65536
+unfolding coldLog
+cold-lines = lit≤ tt
 
 -- ---- an accepted step
 module _ (g : Given) (r : Rooms) (h : stepOf g r .reply .answer .number ≡ 0) where
@@ -63,6 +67,14 @@ take-kept line log h =
     let g = given T T-parameters (log .state) (log .clock) (takenOf line (log .lines) .forcing) in
     let ok = step-accepted line log h in
     rw (took-step line log h) (record { rows = step-rows g rooms ok; wind = step-wind g rooms ok })
+
+-- ---- what the program's loop goes on with: a line that is taken is counted, was not past the last, and leaves a log that can be saved
+pub taken-on : (line : List ℕ) (log : Log) (t : Took) → t ≡ takeOf line log → t .answer .number ≡ 0
+    → (t .log .lines ≡ log .lines + 1) × (log .lines < 65536) × Kept (t .log)
+taken-on line log t e h =
+    let k : takeOf line log .answer .number ≡ 0 = ap (λ (x : Took). x .answer .number) (sym e) ∙ h in
+    let n = counted line log k in
+    rw e (n .0, n .1, take-kept line log k)
 
 -- ---- the save of a log that can be saved, in a room of its length, is the whole text
 module _ (log : Log) (k : Kept log) (t : List ℕ) (long : length t ≡ 289) where

@@ -134,7 +134,7 @@ module _ (g : Given) (r : Rooms) (ok : before13 (roomy r (N (g .mesh))) g .numbe
       let u = at-node 2 i (U′ s (g .mesh .kind) (g .forcing)) (lit< tt) b refl in
       let w = at-node 3 i (V′ s (g .mesh .kind) (g .forcing)) (lit< tt) b refl in
       let all : nodeOf (g .mesh .h) next i ≡ record { h = getD (g .mesh .h) i nan; earlier = node s i .z; z = rise s (g .mesh .kind) (g .forcing) i; u = U′ s (g .mesh .kind) (g .forcing) i; v = V′ s (g .mesh .kind) (g .forcing) i } =
-          λ j. record { h = getD (g .mesh .h) i nan; earlier = e j; z = z j; u = u j; v = w j } in
+      λ j. record { h = getD (g .mesh .h) i nan; earlier = e j; z = z j; u = u j; v = w j } in
       ap inBounds all
       ∙ in-bounds _ _ _ _ _ (was i (rw (sizes .h) at b)) (levels i b .0) (levels i b .1)
       (east-passed _ i (then-first _ _ v)) (north-passed _ i (then-rest _ _ v))

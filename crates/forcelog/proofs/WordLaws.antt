@@ -2,11 +2,11 @@
 use Prim.Native.Nat.{ℕ, zero, suc, _+_, _-_, _*_, _/_, _%_, _^_, _<_, _≤_}
 use mathlib.Core.Path.{_≡_, refl, sym, ap, _∙_}
 use mathlib.Core.List.{List, [], _∷_, _++_, append-assoc}
-use mathlib.Core.Bool.{Bool, true, false}
+use mathlib.Core.Bool.{Bool, true, false, cond}
 use native.Mathlib.Nat.{pow-suc, one-le-pow, pow-le-pow-right}
 use native.Mathlib.Omega.{arith}
 use borrow.Author.Tests.{lt-ltb, le-ltb, leb-true, leb-false}
-use lib.Dec.{lit<, leb}
+use lib.Dec.{lit<, leb, ltb}
 use lib.ListN.{length, take, drop, replicate, length-append}
 use Rattle.io.specs.Digits.{digits, Fewest}
 use Rattle.lists.specs.declared.rows.Answer.{Answer}
@@ -31,7 +31,7 @@ digits-decimal (suc most) (suc (suc k)) n h f =
     let next : suc k - 1 ≡ k = omega arith in
     let some : 1 ≤ 10 ^ k = one-le-pow k 10 (lit< tt) in
     let front : digits 10 (suc k) (n / 10) ≡ decimalOf most (n / 10) =
-        digits-decimal most (suc k) (n / 10) (omega arith) (omega arith, omega arith, λ j. rw next (omega arith)) in
+    digits-decimal most (suc k) (n / 10) (omega arith) (omega arith, omega arith, λ j. rw next (omega arith)) in
     rw (le-ltb n 10 (omega arith), lt-ltb (n % 10) 10 (omega arith)) (ap (λ (l : List ℕ). l ++ ((48 + n % 10) ∷ [])) front)
 
 -- 20 digits hold a number of 64 bits
@@ -73,3 +73,22 @@ zeros-left (suc k) (suc n) = let e : suc n - suc k ≡ n - k = omega arith in rw
 pub held-words : {text : List ℕ} {at : ℕ} {done : List ℕ} → Held text at done → _≡_ {A = Words} (record { bytes = text; len = at }) (words done)
 unfolding words
 held-words {done = done} h = λ i. record { bytes = (h .bytes ∙ ap (λ (l : List ℕ). done ++ l) (zeros-left (length done) roomOfWords)) i; len = h .long i }
+
+-- ---- the room holds every refusal
+decimal-short : (most n : ℕ) → length (decimalOf most n) ≤ most
+unfolding decimalOf
+decimal-short zero n = omega arith
+decimal-short (suc most) n = rw length-append (go (ltb n 10) (decimal-short most (n / 10)))
+  where
+    go : (b : Bool) → length (decimalOf most (n / 10)) ≤ most → length (cond b [] (decimalOf most (n / 10))) + 1 ≤ suc most
+    go true h = omega arith
+    go false h = omega arith
+
+refusal-short : (a : Answer) → length (refusal a) ≤ roomOfWords
+unfolding refusal decimal
+refusal-short a = simp length-append (omega (arith, decimal-short 20 (a .number), decimal-short 20 (a .place)))
+
+-- what a caller learns: its bytes are as many as its length says, or more
+pub words-fit : (a : Answer) (w : Words) → w ≡ words (refusal a) → w .len ≤ length (w .bytes)
+unfolding words
+words-fit a w e = rw e (rw length-append (omega arith))

@@ -13,10 +13,15 @@ ghost use Prim.Native.Nat.{_<_, _≤_, _+_};
 
 // Mesh T.
 const X: [i32; 3] = [0, 100, 0];
+
 const Y: [i32; 3] = [0, 0, 100];
+
 const TRI: [u16; 3] = [0, 1, 2];
+
 const H: [f64; 3] = [8.0, 8.0, 8.0];
+
 const KIND: [u8; 3] = [0, 0, 0];
+
 const P: Parameters = Parameters {
     dt: 1.0,
     tau: 0.0,
@@ -80,7 +85,18 @@ fn step(forcing: Forcing, log: Log) -> Took
     let mut work = [0.0; 9];
     let mut sums = [0u64; 3];
     let reply = surge::step(
-        &mut next, &mut work, &mut sums, &state, &X, &Y, &TRI, &H, &KIND, P, clock, forcing,
+        &mut next,
+        &mut work,
+        &mut sums,
+        &state,
+        &X,
+        &Y,
+        &TRI,
+        &H,
+        &KIND,
+        P,
+        clock,
+        forcing,
     );
     let answer = reply.answer;
     if answer.number != 0 {

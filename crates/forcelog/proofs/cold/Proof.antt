@@ -9,39 +9,28 @@ use Rattle.forcelog.proofs.MeshLaws.{T-opens}
 use borrow.Author.Needs.{needs}
 use Rattle.forcelog.proofs.cold.Statement.{statement}
 use Rattle.forcelog.proofs.cold.Tie as tie
-use Rattle.forcelog.proofs.cold.Reads as reads
-use Rattle.forcelog.proofs.cold.Lts as lts
-use Rattle.surge.proofs.open.Reads as open-reads
 
--- src/lib.rt:40:30
 slice-aggregate-open : tie.Need-slice-aggregate-open
 slice-aggregate-open c = search needs
 
--- src/lib.rt:40:42
 slice-aggregate-open-2 : tie.Need-slice-aggregate-open-2
 slice-aggregate-open-2 c = search needs
 
--- src/lib.rt:40:46
 slice-aggregate-open-3 : tie.Need-slice-aggregate-open-3
 slice-aggregate-open-3 c = search needs
 
--- src/lib.rt:40:50
 slice-aggregate-open-4 : tie.Need-slice-aggregate-open-4
 slice-aggregate-open-4 c = search needs
 
--- src/lib.rt:40:56
 slice-aggregate-open-5 : tie.Need-slice-aggregate-open-5
 slice-aggregate-open-5 c = search needs
 
--- src/lib.rt:40:60
 slice-aggregate-open-6 : tie.Need-slice-aggregate-open-6
 slice-aggregate-open-6 c = search needs
 
--- src/lib.rt:40:9
 open-requires : tie.Need-open-requires
 open-requires c κs = search needs
 
--- src/lib.rt:36:1
 returns : tie.Need-returns
 unfolding coldLog T T-parameters decimal round ofBits table
 returns c =

@@ -5,43 +5,31 @@ use Rattle.forcelog.specs.Log.{endOf}
 use borrow.Author.Needs.{needs}
 use Rattle.forcelog.proofs.end.Statement.{statement}
 use Rattle.forcelog.proofs.end.Tie as tie
-use Rattle.forcelog.proofs.end.Reads as reads
-use Rattle.forcelog.proofs.end.Lts as lts
-use Rattle.saves.proofs.save.Reads as save-reads
 
--- src/lib.rt:94:23
 slice-aggregate-save : tie.Need-slice-aggregate-save
 slice-aggregate-save c = search needs
 
--- src/lib.rt:94:31
 slice-aggregate-save-2 : tie.Need-slice-aggregate-save-2
 slice-aggregate-save-2 c = search needs
 
--- src/lib.rt:94:35
 slice-aggregate-save-3 : tie.Need-slice-aggregate-save-3
 slice-aggregate-save-3 c = search needs
 
--- src/lib.rt:94:39
 slice-aggregate-save-4 : tie.Need-slice-aggregate-save-4
 slice-aggregate-save-4 c = search needs
 
--- src/lib.rt:94:45
 slice-aggregate-save-5 : tie.Need-slice-aggregate-save-5
 slice-aggregate-save-5 c = search needs
 
--- src/lib.rt:94:49
 slice-aggregate-save-6 : tie.Need-slice-aggregate-save-6
 slice-aggregate-save-6 c = search needs
 
--- src/lib.rt:94:5
 save-requires : tie.Need-save-requires
 save-requires c κs = search needs
 
--- src/lib.rt:90:1
 same-length : tie.Need-same-length
 same-length c = search needs
 
--- src/lib.rt:90:1
 returns : tie.Need-returns
 unfolding endOf T T-parameters decimal round ofBits
 returns c = c .before .before .save .ensures

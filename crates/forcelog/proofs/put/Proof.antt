@@ -8,8 +8,6 @@ use lib.Seq.{paste, paste-zero, paste-suc, length-paste, take-length}
 use Rattle.frames.specs.Building.{laid}
 use Rattle.forcelog.proofs.put.Statement.{statement}
 use Rattle.forcelog.proofs.put.Tie as tie
-use Rattle.forcelog.proofs.put.Reads as reads
-use Rattle.forcelog.proofs.put.Lts as lts
 
 abbrev Inv-loop : tie.InvT-loop
 Inv-loop text₀ at part n k₀ text k = (k ≤ n) × (text ≡ paste text₀ at part k)

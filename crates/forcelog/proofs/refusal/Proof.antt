@@ -9,10 +9,6 @@ use Rattle.forcelog.proofs.WordLaws.{Held, held-none, held-put, held-wo
 use borrow.Author.Needs.{needs}
 use Rattle.forcelog.proofs.refusal.Statement.{statement}
 use Rattle.forcelog.proofs.refusal.Tie as tie
-use Rattle.forcelog.proofs.refusal.Reads as reads
-use Rattle.forcelog.proofs.refusal.Lts as lts
-use Rattle.forcelog.proofs.put.Reads as put-reads
-use Rattle.io.proofs.decimal.Reads as decimal-reads
 
 -- ---- the digits of the two numbers
 abbrev digits1 : tie.After-decimal → List ℕ
@@ -68,87 +64,66 @@ at3 c = omega (arith, c .put3 .ensures .0, at2 (c .before .before .before .befor
 at4 : (c : tie.After-put4) → c .put4 .result ≤ 52
 at4 c = omega (arith, c .put4 .ensures .0, at3 (c .before .before .before .before), few2 (second (c .before)))
 
--- src/lib.rt:139:25
 cast-decimal : tie.Need-cast-decimal
 cast-decimal c = search needs
 
--- src/lib.rt:139:9
 decimal-requires : tie.Need-decimal-requires
 decimal-requires c κs = search needs
 
--- src/lib.rt:140:9
 decimal-requires-2 : tie.Need-decimal-requires-2
 decimal-requires-2 c κs = search needs
 
--- src/lib.rt:141:18
 slice-aggregate-put : tie.Need-slice-aggregate-put
 slice-aggregate-put c = search needs
 
--- src/lib.rt:141:33
 slice-aggregate-put-2 : tie.Need-slice-aggregate-put-2
 slice-aggregate-put-2 c = search needs
 
--- src/lib.rt:141:9
 put-requires : tie.Need-put-requires
 put-requires c κs = search needs
 
--- src/lib.rt:142:18
 slice-aggregate-put-3 : tie.Need-slice-aggregate-put-3
 slice-aggregate-put-3 c = search needs
 
--- src/lib.rt:142:34
 array-share-prefix-number : tie.Need-array-share-prefix-number
 array-share-prefix-number c = search needs
 
--- src/lib.rt:142:34
 slice-aggregate-put-4 : tie.Need-slice-aggregate-put-4
 slice-aggregate-put-4 c = search needs
 
--- src/lib.rt:142:9
 put-requires-2 : tie.Need-put-requires-2
 put-requires-2 c κs = let z : length (c .before .before .before .put .last .0) ≡ 53 = search needs in omega (arith, c .before .before .before .put .ensures .0, few1 (first c))
 
--- src/lib.rt:143:18
 slice-aggregate-put-5 : tie.Need-slice-aggregate-put-5
 slice-aggregate-put-5 c = search needs
 
--- src/lib.rt:143:34
 slice-aggregate-put-6 : tie.Need-slice-aggregate-put-6
 slice-aggregate-put-6 c = search needs
 
--- src/lib.rt:143:9
 put-requires-3 : tie.Need-put-requires-3
 put-requires-3 c κs = let z : length (c .before .before .before .put2 .last .0) ≡ 53 = search needs in omega (arith, at2 (c .before .before .before))
 
--- src/lib.rt:144:18
 slice-aggregate-put-7 : tie.Need-slice-aggregate-put-7
 slice-aggregate-put-7 c = search needs
 
--- src/lib.rt:144:34
 array-share-prefix-place : tie.Need-array-share-prefix-place
 array-share-prefix-place c = search needs
 
--- src/lib.rt:144:34
 slice-aggregate-put-8 : tie.Need-slice-aggregate-put-8
 slice-aggregate-put-8 c = search needs
 
--- src/lib.rt:144:9
 put-requires-4 : tie.Need-put-requires-4
 put-requires-4 c κs = let z : length (c .before .before .before .put3 .last .0) ≡ 53 = search needs in omega (arith, at3 (c .before .before .before), few2 (second c))
 
--- src/lib.rt:145:19
 slice-aggregate-put-9 : tie.Need-slice-aggregate-put-9
 slice-aggregate-put-9 c = search needs
 
--- src/lib.rt:145:35
 slice-aggregate-put-10 : tie.Need-slice-aggregate-put-10
 slice-aggregate-put-10 c = search needs
 
--- src/lib.rt:145:9
 put-requires-5 : tie.Need-put-requires-5
 put-requires-5 c κs = let z : length (c .before .before .before .put4 .last .0) ≡ 53 = search needs in omega (arith, at4 (c .before .before .before))
 
--- src/lib.rt:133:1
 returns : tie.Need-returns
 unfolding refusal
 returns c =

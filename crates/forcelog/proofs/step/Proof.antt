@@ -9,70 +9,52 @@ use Rattle.forcelog.proofs.LogLaws.{step-refused, step-gone}
 use borrow.Author.Needs.{needs}
 use Rattle.forcelog.proofs.step.Statement.{statement}
 use Rattle.forcelog.proofs.step.Tie as tie
-use Rattle.forcelog.proofs.step.Reads as reads
-use Rattle.forcelog.proofs.step.Lts as lts
-use Rattle.forcelog.proofs.refused.Reads as refused-reads
-use Rattle.surge.proofs.step.Reads as step-reads
 
 abbrev out : tie.After-step → StepOut
 out c = stepOut (c .step .result) (c .step .last .0) (c .step .last .1 .0) (c .step .last .1 .1 .0)
 
--- src/lib.rt:74:9
 slice-aggregate-step : tie.Need-slice-aggregate-step
 slice-aggregate-step c = search needs
 
--- src/lib.rt:74:20
 slice-aggregate-step-2 : tie.Need-slice-aggregate-step-2
 slice-aggregate-step-2 c = search needs
 
--- src/lib.rt:74:31
 slice-aggregate-step-3 : tie.Need-slice-aggregate-step-3
 slice-aggregate-step-3 c = search needs
 
--- src/lib.rt:74:42
 slice-aggregate-step-4 : tie.Need-slice-aggregate-step-4
 slice-aggregate-step-4 c = search needs
 
--- src/lib.rt:74:50
 slice-aggregate-step-5 : tie.Need-slice-aggregate-step-5
 slice-aggregate-step-5 c = search needs
 
--- src/lib.rt:74:54
 slice-aggregate-step-6 : tie.Need-slice-aggregate-step-6
 slice-aggregate-step-6 c = search needs
 
--- src/lib.rt:74:58
 slice-aggregate-step-7 : tie.Need-slice-aggregate-step-7
 slice-aggregate-step-7 c = search needs
 
--- src/lib.rt:74:64
 slice-aggregate-step-8 : tie.Need-slice-aggregate-step-8
 slice-aggregate-step-8 c = search needs
 
--- src/lib.rt:74:68
 slice-aggregate-step-9 : tie.Need-slice-aggregate-step-9
 slice-aggregate-step-9 c = search needs
 
--- src/lib.rt:73:9
 step-requires : tie.Need-step-requires
 step-requires c κs = search needs
 
--- src/lib.rt:78:9
 refused-requires : tie.Need-refused-requires
 refused-requires c κs = search needs
 
--- src/lib.rt:78:9
 returns : tie.Need-returns
 unfolding stepped T T-parameters decimal round ofBits table
 returns c =
     let r = c .before .before .before .before .before .before .before in
     c .refused .ensures ∙ step-refused _ (out r) _ (r .step .ensures) (c .before .if1 .taken)
 
--- src/lib.rt:80:17
 add-lines : tie.Need-add-lines
 add-lines c = search needs
 
--- src/lib.rt:64:1
 returns-2 : tie.Need-returns-2
 unfolding stepped T T-parameters decimal round ofBits table
 returns-2 c =

@@ -3,30 +3,20 @@ use Rattle.forcelog.proofs.LogLaws.{not-read, was-read, line-below}
 use borrow.Author.Needs.{needs}
 use Rattle.forcelog.proofs.take.Statement.{statement}
 use Rattle.forcelog.proofs.take.Tie as tie
-use Rattle.forcelog.proofs.take.Reads as reads
-use Rattle.forcelog.proofs.take.Lts as lts
-use Rattle.forcelog.proofs.refused.Reads as refused-reads
-use Rattle.forcelog.proofs.step.Reads as step-reads
-use Rattle.saves.proofs.read_forcing.Reads as read-forcing-reads
 
--- src/lib.rt:94:9
 read-forcing-requires : tie.Need-read-forcing-requires
 read-forcing-requires c κs = search needs
 
--- src/lib.rt:97:9
 refused-requires : tie.Need-refused-requires
 refused-requires c κs = search needs
 
--- src/lib.rt:97:9
 returns : tie.Need-returns
 returns c = let t = c .before .before .before in
     c .refused .ensures ∙ not-read _ _ _ (t .before .read-forcing .ensures) (c .before .if1 .taken)
 
--- src/lib.rt:100:5
 step-requires : tie.Need-step-requires
 step-requires c κs = let e = c .before in line-below _ (e .before .before .before .before .before .args .log) _ (e .before .before .before .read-forcing .ensures) (e .if1 .left)
 
--- src/lib.rt:91:1
 returns-2 : tie.Need-returns-2
 returns-2 c = let e = c .before .before in
     c .step .ensures ∙ was-read _ _ _ (e .before .before .before .read-forcing .ensures) (e .if1 .left)
