@@ -3,6 +3,7 @@ use Prim.Native.Nat.{ℕ, _+_, _<_, _≤_}
 use mathlib.Core.Path.{_≡_, refl, sym, ap, _∙_}
 use mathlib.Core.Bool.{Bool, true, false}
 use mathlib.Core.List.{List, [], append-nil}
+use native.Mathlib.Omega.{arith}
 use borrow.Author.Tests.{eqb-true, eqb-false, eq-eqb, ne-eqb}
 use lib.Dec.{eqb, lit≤}
 use lib.ListN.{length, drop}
@@ -14,7 +15,7 @@ use Rattle.lists.specs.Scan.{accepted, row, _then_, scan, some, within, decimal
 use Rattle.lists.proofs.ScanLaws.{row-holds, same-number, goes}
 use Rattle.surge.specs.Geometry.{sides, allNear}
 use Rattle.surge.specs.Rows.{row1, row2, allBelow, row3, row4, row5, rows3to5, isLeg, row6, row6If, isNamed, row7, row8, row9, rows1to9}
-use Rattle.surge.specs.State.{inBounds, row10, rows1to10, row12Held}
+use Rattle.surge.specs.State.{inBounds, row10, rows1to10, row11, row12Held}
 use Rattle.surge.specs.Step.{Given, given, Rooms, StepOut, seaOf, advance, before13, row13, roomy, wentOn, stepsTo, stepOf}
 use Rattle.surge.specs.Lent.{N}
 use Rattle.saves.specs.Forcings.{takenOf}
@@ -30,7 +31,7 @@ use Rattle.forcelog.proofs.StepKeeps.{next-rows, next-wind}
 
 pub cold-kept : Kept coldLog
 unfolding coldLog rows1to10 row10 inBounds row12Held T T-parameters table row _then_ scan some within decimal minus round le lt eq add sides allNear row1 row2 allBelow row3 row4 row5 rows3to5 isLeg row6 row6If isNamed row7 row8 row9 rows1to9
-cold-kept = record { rows = refl; wind = refl }
+cold-kept = record { rows = refl; wind = refl; steps = refl }
 
 pub cold-lines : coldLog .lines ≤ 65536
 unfolding coldLog
@@ -61,20 +62,33 @@ module _ (g : Given) (r : Rooms) (h : stepOf g r .reply .answer .number ≡ 0) w
   unfolding advance
   step-wind = rw (both .2) (next-wind g r (both .0) (both .1))
 
-pub take-kept : (line : List ℕ) (log : Log) → takeOf line log .answer .number ≡ 0 → Kept (takeOf line log .log)
+  pub step-count : stepOf g r .reply .clock .step ≡ g .clock .step + 1
+  unfolding advance
+  step-count = rw (both .2)
+
+pub take-kept : (line : List ℕ) (log : Log) → Kept log → takeOf line log .answer .number ≡ 0 → Kept (takeOf line log .log)
 unfolding stepped
-take-kept line log h =
+take-kept line log k h =
     let g = given T T-parameters (log .state) (log .clock) (takenOf line (log .lines) .forcing) in
     let ok = step-accepted line log h in
-    rw (took-step line log h) (record { rows = step-rows g rooms ok; wind = step-wind g rooms ok })
+    rw (took-step line log h)
+    (record { rows = step-rows g rooms ok; wind = step-wind g rooms ok; steps = step-count g rooms ok ∙ ap (λ (n : ℕ). n + 1) (k .steps) })
+
+-- ---- why no line is refused by 10 or 11: of such a log, while a line is left, a step passes all rows before 12 for its forcing
+pub next-may : (log : Log) → Kept log → log .lines < 65536
+    → (rows1to10 (roomy rooms (N T)) T T-parameters (log .state) .number ≡ 0) × (row11 (log .clock) .number ≡ 0) × (row12Held (log .clock) .number ≡ 0)
+unfolding table T row11
+next-may log k h =
+    let few : log .clock .step ≡ 4294967295 → ⊥ = λ e. absurd (omega (arith, e, k .steps)) in
+    (k .rows, same-number (sym (row-holds 11 0 (rw (ne-eqb _ _ few)))) refl, k .wind)
 
 -- ---- what the program's loop goes on with: a line that is taken is counted, was not past the last, and leaves a log that can be saved
-pub taken-on : (line : List ℕ) (log : Log) (t : Took) → t ≡ takeOf line log → t .answer .number ≡ 0
+pub taken-on : (line : List ℕ) (log : Log) (t : Took) → Kept log → t ≡ takeOf line log → t .answer .number ≡ 0
     → (t .log .lines ≡ log .lines + 1) × (log .lines < 65536) × Kept (t .log)
-taken-on line log t e h =
+taken-on line log t kept e h =
     let k : takeOf line log .answer .number ≡ 0 = ap (λ (x : Took). x .answer .number) (sym e) ∙ h in
     let n = counted line log k in
-    rw e (n .0, n .1, take-kept line log k)
+    rw e (n .0, n .1, take-kept line log kept k)
 
 -- ---- the save of a log that can be saved, in a room of its length, is the whole text
 module _ (log : Log) (k : Kept log) (t : List ℕ) (long : length t ≡ 289) where

@@ -1,7 +1,8 @@
--- A log whose run can be saved: its state and its held wind are in range.
+-- A log whose run can be saved: its state and its held wind are in range. Its step number is how many lines were taken.
 use mathlib.Core.Path.{_≡_}
 use mathlib.Core.Bool.{true}
 use Rattle.lists.specs.declared.rows.Answer.{Answer}
+use Rattle.surge.specs.declared.Clock.{Clock}
 use Rattle.surge.specs.State.{rows1to10, row12Held}
 use Rattle.forcelog.specs.declared.Log.{Log}
 use Rattle.forcelog.specs.MeshT.{T, T-parameters}
@@ -9,3 +10,4 @@ use Rattle.forcelog.specs.MeshT.{T, T-parameters}
 pub record Kept (log : Log) : Type 0 where
   pub rows : rows1to10 true T T-parameters (log .state) .number ≡ 0
   pub wind : row12Held (log .clock) .number ≡ 0
+  pub steps : log .clock .step ≡ log .lines

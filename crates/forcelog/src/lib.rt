@@ -66,12 +66,15 @@ pub fn cold() -> Log
 fn refused(answer: Answer, log: Log) -> Took
     ensures { λ r. ⌜ r ≡ refusedAt answer log ⌝ }
 {
-    let answer = Answer {
+    let at_line = Answer {
         number: answer.number,
         place: log.lines as usize,
         value: answer.value,
     };
-    Took { answer, log }
+    Took {
+        answer: at_line,
+        log,
+    }
 }
 
 // The step of a line that was read.
@@ -117,9 +120,9 @@ pub fn take(line: &[u8], log: Log) -> Took
     ensures { λ r. ⌜ r ≡ takeOf (now (line .entry)) log ⌝ }
 {
     let read = saves::read_forcing(line, log.lines);
-    let answer = read.answer;
-    if answer.number != 0 {
-        return refused(answer, log);
+    let fault = read.answer;
+    if fault.number != 0 {
+        return refused(fault, log);
     }
     let forcing = read.forcing;
     step(forcing, log)

@@ -52,10 +52,16 @@ returns-2 : tie.Need-returns-2 Inv-loop μ-loop
 returns-2 c = search needs
 
 loop-less : tie.Need-loop-less Inv-loop μ-loop
-loop-less c = let t = taken-on _ _ _ (c .before .before .before .before .take .ensures) (c .before .if2 .left) in omega arith
+loop-less c =
+    let p = c .before .before .before .before in
+    let t = taken-on _ _ _ (p .before .before .before .before .before .before .loop .inv .1) (p .take .ensures) (c .before .if2 .left) in
+    omega arith
 
 loop-again : tie.Need-loop-again Inv-loop μ-loop
-loop-again c = let t = taken-on _ _ _ (c .before .before .before .before .take .ensures) (c .before .if2 .left) in (omega arith, t .2)
+loop-again c =
+    let p = c .before .before .before .before in
+    let t = taken-on _ _ _ (p .before .before .before .before .before .before .loop .inv .1) (p .take .ensures) (c .before .if2 .left) in
+    (omega arith, t .2)
 
 pub main-spec : {M : Type 1} → statement M
 main-spec =
