@@ -10,11 +10,13 @@
 //! - [`step`](mod@step): rows 10 to 13, elevation, velocity, [`step()`];
 //! - [`frames`]: digits, fields, check byte, line faults, [`read_forcing`];
 //! - [`saves`]: [`save`] and [`load`];
-//! - [`printing`]: the printing program and example 13 on mesh T.
+//! - [`printing`]: the printing program and example 13 on mesh T;
+//! - [`cases`]: inputs on which the printing program is tried.
 
 #![forbid(unsafe_code)]
 #![warn(missing_docs)]
 
+pub mod cases;
 pub mod frames;
 pub mod mesh;
 pub mod printing;
@@ -24,6 +26,7 @@ pub mod step;
 #[cfg(test)]
 mod tests;
 
+pub use cases::{cases, Case};
 pub use frames::read_forcing;
 pub use mesh::open;
 pub use printing::{example_13, print};

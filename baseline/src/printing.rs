@@ -21,8 +21,8 @@ pub(crate) const P: Parameters = Parameters {
 const SAVE: usize = 289;
 
 /// A run on mesh T.
-struct Run {
-    state: [f64; 12],
+pub(crate) struct Run {
+    pub(crate) state: [f64; 12],
     clock: Clock,
 }
 
@@ -37,14 +37,14 @@ fn accepted(answer: Answer) -> Result<(), Answer> {
 
 impl Run {
     /// The cold run.
-    fn open() -> Result<Run, Answer> {
+    pub(crate) fn open() -> Result<Run, Answer> {
         let mut state = [0.0; 12];
         let (answer, clock) = open(&mut state, &X, &Y, &TRI, &H, &KIND, P);
         accepted(answer)?;
         Ok(Run { state, clock })
     }
 
-    fn step(&mut self, forcing: Forcing) -> Result<(), Answer> {
+    pub(crate) fn step(&mut self, forcing: Forcing) -> Result<(), Answer> {
         let mut next = [0.0; 12];
         let (answer, clock) = step(
             &mut next,

@@ -117,3 +117,51 @@ fn sequence_numbers_end_at_65_535() {
         input.pop();
     }
 }
+
+/// A case whose name begins with a row is refused by that row, or by none where
+/// its name says so.
+#[test]
+fn cases_are_named_after_their_rows() {
+    let cases = crate::cases();
+    let mut names: Vec<_> = cases.iter().map(|case| case.name.clone()).collect();
+    names.sort();
+    names.dedup();
+    assert_eq!(names.len(), cases.len());
+    for case in cases.iter().filter(|case| case.input.len() < 1_000_000) {
+        let text = String::from_utf8(print(&case.input)).unwrap();
+        let row = case.name.get(3..5).filter(|_| case.name.starts_with("row"));
+        match row {
+            Some(row) if !case.name.ends_with("last_accepted") => {
+                assert!(text.starts_with(&format!("refused {row} at ")));
+            }
+            _ if case.name.starts_with("order") => assert!(text.starts_with("refused")),
+            _ => assert_eq!(text.len(), 289, "{}", case.name),
+        }
+    }
+}
+
+/// "U' or V' beyond 20": pumped eastward it is U', northward V'.
+#[test]
+fn the_pumped_runs_leave_their_range_by_speed() {
+    for (name, first) in [("row13_east", 6), ("row13_north", 9)] {
+        let cases = crate::cases();
+        let case = cases.iter().find(|case| case.name == name).unwrap();
+        let mut lent = Lent::mesh_t();
+        let mut last = None;
+        for (place, line) in case.input.chunks(57).enumerate() {
+            let (answer, forcing) = crate::read_forcing(line, place as u32);
+            accepted(answer, 0);
+            lent.forcing = forcing;
+            let (answer, _) = lent.step();
+            if answer.number != 0 {
+                last = Some((answer, place));
+                break;
+            }
+            lent.step_accepted();
+        }
+        let (answer, place) = last.unwrap();
+        assert_eq!((answer.number, place + 1), (13, case.input.len() / 57));
+        assert!(answer.value.abs() > 20.0 && answer.value.abs() < 21.0);
+        assert!((lent.state[first + answer.place] - answer.value).abs() < 1.0);
+    }
+}

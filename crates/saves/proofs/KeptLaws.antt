@@ -24,7 +24,7 @@ use Rattle.saves.specs.Load.{clockOf, loadedNode, loadAnswer, loadedStat
 -- ---- a save: a run that passes rows 10 and 12, and room enough
 module _ (m : Mesh) (p : Parameters) (state : List Float) (k : Clock) (t : List ℕ) (ok : rows1to10 true m p state .number ≡ 0)
     (held : row12Held (windOf k) .number ≡ 0) (l : saveLength (N m) ≤ length t) where
-  save-fine : saveAnswer m p state k t .number ≡ 0
+  pub save-fine : saveAnswer m p state k t .number ≡ 0
   unfolding saveAnswer row24
   save-fine = ap (λ (a : Answer). a .number) (then-next _ _ ok ∙ then-next _ _ held ∙ row-holds 24 (saveLength (N m)) (le-leb _ _ l))
 

@@ -85,6 +85,14 @@ use Rattle.saves.proofs.load.Kinds as load-kinds
 use Rattle.saves.proofs.load.Reads as load-reads
 use Rattle.surge.proofs.step.Kinds as step-kinds
 use Rattle.surge.proofs.step.Reads as step-reads
+use Rattle.forcelog.proofs.cold.Kinds as cold-kinds
+use Rattle.forcelog.proofs.cold.Reads as cold-reads
+use Rattle.forcelog.proofs.take.Kinds as take-kinds
+use Rattle.forcelog.proofs.take.Reads as take-reads
+use Rattle.forcelog.proofs.end.Kinds as end-kinds
+use Rattle.forcelog.proofs.end.Reads as end-reads
+use Rattle.forcelog.proofs.refusal.Kinds as refusal-kinds
+use Rattle.forcelog.proofs.refusal.Reads as refusal-reads
 
 -- the one law: two values that equal a third are equal
 same : {A : Type 0} {x y z : A} → x ≡ z → y ≡ z → x ≡ y
@@ -236,3 +244,24 @@ load-determined κs a x y v w p q =
 
 pub load-asks-nothing : (κs : Lfts 7) (a : Dens κs load-kinds.ps) → load-reads.Asked κs a
 load-asks-nothing κs a = tt
+
+-- ---- the printing program's log
+pub cold-determined : Determined cold-kinds.ps cold-kinds.r cold-reads.Post
+cold-determined κs a x y v w p q = (same p q, refl)
+
+pub take-determined : Determined take-kinds.ps take-kinds.r take-reads.Post
+take-determined κs a x y v w p q = (same p q, refl)
+
+pub end-determined : Determined end-kinds.ps end-kinds.r end-reads.Post
+end-determined κs a x y v w p q =
+    let e : saveOut x (v .0) ≡ saveOut y (w .0) = same p q in
+    (ap (λ (o : SaveOut). o .answer) e, λ i. (e i .text, (tt, tt)))
+
+pub refusal-determined : Determined refusal-kinds.ps refusal-kinds.r refusal-reads.Post
+refusal-determined κs a x y v w p q = (same p q, refl)
+
+pub take-asks-nothing : (κs : Lfts 1) (a : Dens κs take-kinds.ps) → take-reads.Asked κs a
+take-asks-nothing κs a = tt
+
+pub end-asks-nothing : (κs : Lfts 1) (a : Dens κs end-kinds.ps) → end-reads.Asked κs a
+end-asks-nothing κs a = tt

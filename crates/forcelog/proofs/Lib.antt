@@ -1,0 +1,6 @@
+pub mod LogLaws
+pub mod MeshLaws
+pub mod WordLaws
+pub mod PieceLaws
+pub mod EmptyLaws
+pub mod KeptLaws

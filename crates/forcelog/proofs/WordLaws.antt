@@ -1,0 +1,94 @@
+-- Laws of the text of a refusal: numbers in decimal, and a room that is written part by part.
+use Prim.Native.Nat.{ℕ, zero, suc, _+_, _-_, _*_, _/_, _%_, _^_, _<_, _≤_}
+use mathlib.Core.Path.{_≡_, refl, sym, ap, _∙_}
+use mathlib.Core.List.{List, [], _∷_, _++_, append-assoc}
+use mathlib.Core.Bool.{Bool, true, false, cond}
+use native.Mathlib.Nat.{pow-suc, one-le-pow, pow-le-pow-right}
+use native.Mathlib.Omega.{arith}
+use borrow.Author.Tests.{lt-ltb, le-ltb, leb-true, leb-false}
+use lib.Dec.{lit<, leb, ltb}
+use lib.ListN.{length, take, drop, replicate, length-append}
+use Rattle.io.specs.Digits.{digits, Fewest}
+use Rattle.lists.specs.declared.rows.Answer.{Answer}
+use Rattle.frames.specs.Frames.{lineFeed}
+use Rattle.frames.specs.Building.{laid}
+use Rattle.frames.proofs.LaidLaws.{laid-next}
+use Rattle.forcelog.specs.declared.Words.{Words}
+use Rattle.forcelog.specs.Printed.{decimalOf, decimal, refusedWord, atWord, refusal, roomOfWords, words}
+
+-- ---- the fewest digits that hold a number are its decimal
+pub digits-decimal : (most k n : ℕ) → k ≤ most → Fewest 10 1 n k → digits 10 k n ≡ decimalOf most n
+unfolding decimalOf
+digits-decimal most zero n h f = absurd (omega (arith, f .0))
+digits-decimal zero (suc k) n h f = absurd (omega (arith, h))
+digits-decimal (suc most) (suc zero) n h f =
+    let small : n < 10 = f .1 in
+    rw (lt-ltb n 10 small, lt-ltb (n % 10) 10 (omega arith))
+digits-decimal (suc most) (suc (suc k)) n h f =
+    let most-of-it : n < 10 ^ suc k * 10 = rw pow-suc at (f .1) in
+    let one-less : suc (suc k) - 1 ≡ suc k = omega arith in
+    let large : 10 ^ k * 10 ≤ n = rw (one-less, pow-suc) at (f .2 (omega arith)) in
+    let next : suc k - 1 ≡ k = omega arith in
+    let some : 1 ≤ 10 ^ k = one-le-pow k 10 (lit< tt) in
+    let front : digits 10 (suc k) (n / 10) ≡ decimalOf most (n / 10) =
+    digits-decimal most (suc k) (n / 10) (omega arith) (omega arith, omega arith, λ j. rw next (omega arith)) in
+    rw (le-ltb n 10 (omega arith), lt-ltb (n % 10) 10 (omega arith)) (ap (λ (l : List ℕ). l ++ ((48 + n % 10) ∷ [])) front)
+
+-- 20 digits hold a number of 64 bits
+pub few-digits : (n k : ℕ) → n < 18446744073709551616 → Fewest 10 1 n k → k ≤ 20
+few-digits n k h f = go (leb k 20) refl
+  where
+    go : (b : Bool) → leb k 20 ≡ b → k ≤ 20
+    go true e = leb-true k 20 e
+    go false e =
+        let more : 20 < k = leb-false k 20 e in
+        let large : 10 ^ (k - 1) ≤ n = f .2 (omega arith) in
+        let grows : 10 ^ 20 ≤ 10 ^ (k - 1) = pow-le-pow-right {n = 10} (lit< tt) {i = 20} {j = k - 1} (omega arith) in
+        absurd (omega arith)
+
+pub is-decimal : (text : List ℕ) {k n : ℕ} → n < 18446744073709551616 → Fewest 10 1 n k → take k text ≡ digits 10 k n → take k text ≡ decimal n
+unfolding decimal
+is-decimal text {k} {n} h f e = e ∙ digits-decimal 20 k n (few-digits n k h f) f
+
+-- ---- what is written so far, and the place after it
+pub record Held (text : List ℕ) (at : ℕ) (done : List ℕ) : Type 0 where
+  pub bytes : text ≡ done ++ drop (length done) (replicate roomOfWords 0)
+  pub long : at ≡ length done
+
+pub held-none : Held (replicate roomOfWords 0) 0 []
+held-none = record { bytes = refl; long = refl }
+
+pub held-put : {text new : List ℕ} {at next : ℕ} {done : List ℕ} (part : List ℕ) → Held text at done → (next ≡ at + length part) × (new ≡ laid text at part)
+    → Held new next (done ++ part)
+held-put {done = done} part h e = record {
+  bytes = e .1 ∙ (λ i. laid (h .bytes i) (h .long i) part) ∙ laid-next done (replicate roomOfWords 0) part;
+  long = e .0 ∙ ap (λ (n : ℕ). n + length part) (h .long) ∙ sym (length-append done part);
+}
+
+zeros-left : (k n : ℕ) → drop {A = ℕ} k (replicate n 0) ≡ replicate (n - k) 0
+zeros-left zero n = let e : n - 0 ≡ n = omega arith in rw e
+zeros-left (suc k) zero = let e : 0 - suc k ≡ 0 = omega arith in rw e
+zeros-left (suc k) (suc n) = let e : suc n - suc k ≡ n - k = omega arith in rw e (zeros-left k n)
+
+pub held-words : {text : List ℕ} {at : ℕ} {done : List ℕ} → Held text at done → _≡_ {A = Words} (record { bytes = text; len = at }) (words done)
+unfolding words
+held-words {done = done} h = λ i. record { bytes = (h .bytes ∙ ap (λ (l : List ℕ). done ++ l) (zeros-left (length done) roomOfWords)) i; len = h .long i }
+
+-- ---- the room holds every refusal
+decimal-short : (most n : ℕ) → length (decimalOf most n) ≤ most
+unfolding decimalOf
+decimal-short zero n = omega arith
+decimal-short (suc most) n = rw length-append (go (ltb n 10) (decimal-short most (n / 10)))
+  where
+    go : (b : Bool) → length (decimalOf most (n / 10)) ≤ most → length (cond b [] (decimalOf most (n / 10))) + 1 ≤ suc most
+    go true h = omega arith
+    go false h = omega arith
+
+refusal-short : (a : Answer) → length (refusal a) ≤ roomOfWords
+unfolding refusal decimal
+refusal-short a = simp length-append (omega (arith, decimal-short 20 (a .number), decimal-short 20 (a .place)))
+
+-- what a caller learns: its bytes are as many as its length says, or more
+pub words-fit : (a : Answer) (w : Words) → w ≡ words (refusal a) → w .len ≤ length (w .bytes)
+unfolding words
+words-fit a w e = rw e (rw length-append (omega arith))

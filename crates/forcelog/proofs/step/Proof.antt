@@ -1,0 +1,82 @@
+use mathlib.Core.Path.{_∙_}
+use lib.Ieee.{round, ofBits}
+use Rattle.lists.specs.Table.{table}
+use Rattle.lists.specs.Scan.{decimal}
+use Rattle.surge.specs.Step.{StepOut, stepOut}
+use Rattle.forcelog.specs.MeshT.{T, T-parameters}
+use Rattle.forcelog.specs.Log.{stepped}
+use Rattle.forcelog.proofs.LogLaws.{step-refused, step-gone}
+use borrow.Author.Needs.{needs}
+use Rattle.forcelog.proofs.step.Statement.{statement}
+use Rattle.forcelog.proofs.step.Tie as tie
+
+abbrev out : tie.After-step → StepOut
+out c = stepOut (c .step .result) (c .step .last .0) (c .step .last .1 .0) (c .step .last .1 .1 .0)
+
+slice-aggregate-step : tie.Need-slice-aggregate-step
+slice-aggregate-step c = search needs
+
+slice-aggregate-step-2 : tie.Need-slice-aggregate-step-2
+slice-aggregate-step-2 c = search needs
+
+slice-aggregate-step-3 : tie.Need-slice-aggregate-step-3
+slice-aggregate-step-3 c = search needs
+
+slice-aggregate-step-4 : tie.Need-slice-aggregate-step-4
+slice-aggregate-step-4 c = search needs
+
+slice-aggregate-step-5 : tie.Need-slice-aggregate-step-5
+slice-aggregate-step-5 c = search needs
+
+slice-aggregate-step-6 : tie.Need-slice-aggregate-step-6
+slice-aggregate-step-6 c = search needs
+
+slice-aggregate-step-7 : tie.Need-slice-aggregate-step-7
+slice-aggregate-step-7 c = search needs
+
+slice-aggregate-step-8 : tie.Need-slice-aggregate-step-8
+slice-aggregate-step-8 c = search needs
+
+slice-aggregate-step-9 : tie.Need-slice-aggregate-step-9
+slice-aggregate-step-9 c = search needs
+
+step-requires : tie.Need-step-requires
+step-requires c κs = search needs
+
+refused-requires : tie.Need-refused-requires
+refused-requires c κs = search needs
+
+returns : tie.Need-returns
+unfolding stepped T T-parameters decimal round ofBits table
+returns c =
+    let r = c .before .before .before .before .before .before .before in
+    c .refused .ensures ∙ step-refused _ (out r) _ (r .step .ensures) (c .before .if1 .taken)
+
+add-lines : tie.Need-add-lines
+add-lines c = search needs
+
+returns-2 : tie.Need-returns-2
+unfolding stepped T T-parameters decimal round ofBits table
+returns-2 c =
+    let e = c .before .before in
+    let r = e .before .before .before .before .before .before in
+    step-gone _ (out r) _ (r .step .ensures) (e .if1 .left)
+
+pub step-spec : {M : Type 1} → statement M
+step-spec =
+    tie.close
+    (tie.spec
+    slice-aggregate-step
+    slice-aggregate-step-2
+    slice-aggregate-step-3
+    slice-aggregate-step-4
+    slice-aggregate-step-5
+    slice-aggregate-step-6
+    slice-aggregate-step-7
+    slice-aggregate-step-8
+    slice-aggregate-step-9
+    step-requires
+    refused-requires
+    returns
+    add-lines
+    returns-2)

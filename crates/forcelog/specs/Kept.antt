@@ -1,0 +1,14 @@
+-- A log whose run can be saved: its state and its held wind are in range. Its step number is how many lines were taken.
+use mathlib.Core.Path.{_≡_}
+use mathlib.Core.Bool.{true}
+use Rattle.lists.specs.declared.rows.Answer.{Answer}
+use Rattle.surge.specs.declared.Clock.{Clock}
+use Rattle.limits.specs.Limits.{row12Held}
+use Rattle.surge.specs.State.{rows1to10, windOf}
+use Rattle.forcelog.specs.declared.Log.{Log}
+use Rattle.forcelog.specs.MeshT.{T, T-parameters}
+
+pub record Kept (log : Log) : Type 0 where
+  pub rows : rows1to10 true T T-parameters (log .state) .number ≡ 0
+  pub wind : row12Held (windOf (log .clock)) .number ≡ 0
+  pub steps : log .clock .step ≡ log .lines

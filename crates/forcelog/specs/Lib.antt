@@ -1,0 +1,5 @@
+pub mod MeshT
+pub mod Log
+pub mod Printed
+pub mod Empty
+pub mod Kept
