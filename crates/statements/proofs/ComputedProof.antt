@@ -1,23 +1,28 @@
--- The history on mesh T is as its table says, by computation: each run in numbers, and each call worked out from the run before it.
-use mathlib.Core.Path.{_≡_, refl, sym, ap, _∙_}
-use mathlib.Core.Bool.{true, false}
-use mathlib.Core.List.{List, [], _∷_, _++_}
+-- The sequence of calls on mesh T is as its statement says, by computation: each run in numbers, and each call worked out from the run before it.
+use native.Mathlib.Decide.{ℕ-discrete}
+use mathlib.Core.Path.{_≡_, refl, sym, ap, subst, _∙_}
+use mathlib.Core.Bool.{true, false, cond}
+use mathlib.Core.List.{List, [], _∷_, _++_, List-discrete}
+use mathlib.Core.Logic.{ite}
+use mathlib.Core.Option.{Option, none, some, Option·getD, IsSome}
 use lib.IntN.{negsuc}
-use lib.ListN.{replicate, take, getD}
+use lib.ListN.{getD}
 use lib.Ieee.{Float, fin, nan}
 use Rattle.lists.specs.declared.rows.Answer.{Answer}
 use Rattle.lists.specs.Table.{table}
 use Rattle.lists.specs.Scan.{plus0, accepted, refused, decimal}
-use Rattle.surge.specs.Lent.{coldState, coldClock, After, after}
+use Rattle.surge.specs.Lent.{After}
 use Rattle.surge.specs.Open.{openOf}
-use Rattle.surge.specs.Step.{Held, StepOut, stepOut}
+use Rattle.surge.specs.Step.{Held, StepOut, given, stepOf, stepOut}
 use Rattle.saves.specs.Lines.{bits}
 use Rattle.saves.specs.Save.{saveOf, wrote}
 use Rattle.saves.specs.Load.{loadOf}
-use Rattle.saves.specs.Forcings.{still}
-use Rattle.statements.specs.Examples.{Outcome, run, count, T, T-parameters, T-rooms}
-use Rattle.statements.specs.Computed.{east, north, flood, left, step, taken, kept, along, cold, line}
-use Rattle.statements.specs.Computed.{call1, run1, call2, run2, call3, run3, call4, saved, call5, run5, call6, run6, call7, run7, computed, ComputedHolds}
+use Rattle.history.specs.History.{Written, Call, step, save, load, Saved, History, begun, latest, after, AllOwn, along}
+use Rattle.statements.specs.Demand3.{Weather, accepts, run, saved}
+use Rattle.statements.specs.RoundTrip.{gives}
+use Rattle.statements.specs.Examples.{Outcome, stepped, T, T-parameters, T-rooms}
+use Rattle.statements.specs.Computed.{on-T, east, north, calm, flood, text-room, text, calls, at, end, answer, ComputedHolds}
+use Rattle.statements.proofs.Demand3Holds.{demand3-at-surge}
 use Rattle.statements.proofs.Computing.{arithmetic, tables, the-rows, the-formulas, the-equations, the-frames, the-calls}
 
 -- ---- the runs in numbers
@@ -57,120 +62,146 @@ abbrev went : Held → StepOut
 went r = stepOut (record { answer = accepted; clock = r .clock }) (r .state) (T-rooms .work) (T-rooms .sums)
 
 -- ---- each call, from the run before it in numbers
-opens : openOf T T-parameters (table 12 (λ _. decimal 7 1)) ≡ after (record { answer = accepted; clock = coldClock }) (coldState 3)
+abbrev stepping : Held → Weather → StepOut
+stepping r f = stepOf (given T T-parameters (r .state) (r .clock) (f .forcing)) T-rooms
+
+opens : openOf T T-parameters (table 12 (λ _. decimal 7 1)) ≡ gives (on-T .cold .state) (on-T .cold .clock)
 unfolding arithmetic tables the-rows the-calls
 opens = refl
 
-to-first : step cold east ≡ went first
+to-first : stepping (on-T .cold) east ≡ went first
 unfolding arithmetic tables the-rows the-formulas the-equations the-calls
 to-first = refl
 
-floods : step first flood ≡ stepOut (record { answer = refused 12 1; clock = first .clock }) (T-rooms .next) (T-rooms .work) (T-rooms .sums)
+floods : stepping first flood ≡ stepOut (record { answer = refused 12 1; clock = first .clock }) (T-rooms .next) (T-rooms .work) (T-rooms .sums)
 unfolding arithmetic tables the-rows the-calls
 floods = refl
 
-saves : saveOf T T-parameters (first .state) (first .clock) (replicate 300 0) .answer ≡ wrote 289
+saves : saveOf T T-parameters (first .state) (first .clock) text-room .answer ≡ wrote 289
 unfolding arithmetic tables the-rows the-calls
 saves = refl
 
-to-calmed : step first still ≡ went calmed
+to-calmed : stepping first calm ≡ went calmed
 unfolding arithmetic tables the-rows the-formulas the-equations the-calls
 to-calmed = refl
 
-loads : let o = saveOf T T-parameters (first .state) (first .clock) (replicate 300 0) in
-    loadOf T T-parameters (take (o .answer .place) (o .text)) (calmed .state) (calmed .clock) ≡ after (record { answer = accepted; clock = first .clock }) (first .state)
+loads : loadOf T T-parameters (saved T T-parameters first text-room .text) (calmed .state) (calmed .clock) ≡ gives (first .state) (first .clock)
 unfolding arithmetic tables the-rows the-frames the-calls
 loads = refl
 
-to-turned : step first north ≡ went turned
+to-turned : stepping first north ≡ went turned
 unfolding arithmetic tables the-rows the-formulas the-equations the-calls
 to-turned = refl
 
--- the equations alone
-equations-first : along cold (east ∷ []) ≡ first
-unfolding arithmetic tables the-formulas the-equations
-equations-first = refl
-
-equations-turned : along first (north ∷ []) ≡ turned
-unfolding arithmetic tables the-formulas the-equations
-equations-turned = refl
-
-equations-both : along cold (east ∷ north ∷ []) ≡ turned
-equations-both = ap (λ (r : Held). along r (north ∷ [])) equations-first ∙ equations-turned
-
-pattern : bits (getD (turned .state) 6 nan) ≡ 4566437956654429322
+pattern-is : bits (getD (turned .state) 6 nan) ≡ 4566437956654429322
 unfolding arithmetic
-pattern = refl
+pattern-is = refl
 
--- ---- the calls and the runs of the table, in turn
-opened : call1 ≡ after (record { answer = accepted; clock = coldClock }) (coldState 3)
-unfolding call1
-opened = opens
+-- ---- the histories in turn
+-- what is held after a step that leaves o
+abbrev having : History on-T → Weather → StepOut → History on-T
+having a f o =
+    let ok = accepts (o .reply .answer) in
+    record { held = run (cond ok (o .rooms .next) (a .held .state)) (o .reply .clock); path = cond ok (a .path ++ (f ∷ [])) (a .path); saved = a .saved }
 
-is-1 : run1 ≡ cold
-unfolding run1
-is-1 = ap left opened
+to : (c : Call on-T) {a b : History on-T} → a ≡ b → after on-T a c ≡ after on-T b c
+to c e = ap (λ (h : History on-T). after on-T h c) e
 
-did-2 : call2 ≡ went first
-unfolding call2
-did-2 = ap (λ (r : Held). step r east) is-1 ∙ to-first
+abbrev stepped-first : History on-T
+stepped-first = record { held = first; path = east ∷ []; saved = [] }
 
-is-2 : run2 ≡ first
-unfolding run2
-is-2 = ap taken did-2
+is-0 : at 0 ≡ begun on-T
+is-0 = refl
 
-did-3 : call3 ≡ stepOut (record { answer = refused 12 1; clock = first .clock }) (T-rooms .next) (T-rooms .work) (T-rooms .sums)
-unfolding call3
-did-3 = ap (λ (r : Held). step r flood) is-2 ∙ floods
+is-1 : at 1 ≡ stepped-first
+is-1 = ap (having (begun on-T) east) to-first
 
-is-3 : run3 ≡ first
-unfolding run3
-is-3 = λ i. kept (is-2 i) (did-3 i)
+is-2 : at 2 ≡ stepped-first
+is-2 = to (step flood T-rooms) is-1 ∙ ap (having stepped-first flood) floods
 
-did-4 : call4 ≡ saveOf T T-parameters (first .state) (first .clock) (replicate 300 0)
-unfolding call4
-did-4 = ap (λ (r : Held). saveOf T T-parameters (r .state) (r .clock) (replicate 300 0)) is-3
+-- the text is that of the first run
+text-is : text ≡ saved T T-parameters first text-room .text
+unfolding text
+text-is = ap (λ (h : History on-T). saved T T-parameters (h .held) text-room .text) is-2
 
-did-5 : call5 ≡ went calmed
-unfolding call5
-did-5 = ap (λ (r : Held). step r still) is-3 ∙ to-calmed
+written : saved T T-parameters first text-room ≡ record { accepted = true; text = text }
+written = λ i. record { accepted = accepts (saves i); text = sym text-is i }
 
-is-5 : run5 ≡ calmed
-unfolding run5
-is-5 = ap taken did-5
+abbrev kept : List (Saved on-T)
+kept = record { text = text; path = east ∷ [] } ∷ []
 
-did-6 : call6 ≡ after (record { answer = accepted; clock = first .clock }) (first .state)
-unfolding call6 saved
-did-6 = (λ i. loadOf T T-parameters (take (did-4 i .answer .place) (did-4 i .text)) (is-5 i .state) (is-5 i .clock)) ∙ loads
+abbrev saved-first : History on-T
+saved-first = record { held = first; path = east ∷ []; saved = kept }
 
-is-6 : run6 ≡ first
-unfolding run6
-is-6 = ap left did-6
+is-3 : at 3 ≡ saved-first
+is-3 =
+    to (save text-room) is-2
+    ∙ ap (λ (w : Written). record { held = first; path = east ∷ []; saved = cond (w .accepted) (record { text = w .text; path = east ∷ [] } ∷ []) [] }) written
 
-did-7 : call7 ≡ went turned
-unfolding call7
-did-7 = ap (λ (r : Held). step r north) is-6 ∙ to-turned
+abbrev stepped-calm : History on-T
+stepped-calm = record { held = calmed; path = east ∷ calm ∷ []; saved = kept }
 
-is-7 : run7 ≡ turned
-unfolding run7
-is-7 = ap taken did-7
+is-4 : at 4 ≡ stepped-calm
+is-4 = to (step calm T-rooms) is-3 ∙ ap (having saved-first calm) to-calmed
 
--- ---- the table, line by line
+-- the text is found among what was saved
+found : latest on-T text kept ≡ some (east ∷ [])
+found = go (List-discrete ℕ-discrete text text)
+  where
+    go : (d : Dec (text ≡ text)) → _≡_ {A = Option (List Weather)} (ite d (some (east ∷ [])) none) (some (east ∷ []))
+    go (yes e) = refl
+    go (no n) = absurd (n refl)
+
+did-load : loadOf T T-parameters text (calmed .state) (calmed .clock) ≡ gives (first .state) (first .clock)
+did-load = rw text-is loads
+
+is-5 : at 5 ≡ saved-first
+is-5 =
+    to (load text) is-4
+    ∙ (λ i. record {
+      held = run (did-load i .state) (did-load i .reply .clock);
+      path = cond (accepts (did-load i .reply .answer)) (Option·getD (found i) (east ∷ calm ∷ [])) (east ∷ calm ∷ []);
+      saved = kept;
+    })
+
+is-6 : end ≡ record { held = turned; path = east ∷ north ∷ []; saved = kept }
+is-6 = to (step north T-rooms) is-5 ∙ ap (having saved-first north) to-turned
+
+-- ---- the statement
+own-calls : AllOwn on-T (begun on-T) calls
+own-calls =
+    let here : IsSome (latest on-T text (at 4 .saved)) = subst (λ (h : History on-T). IsSome (latest on-T text (h .saved))) (sym is-4) (rw found tt) in
+    (tt, (tt, (tt, (tt, ((λ _. here), (tt, tt))))))
+
+-- a line of the table
+says : (c : Call on-T) {a a′ b b′ : History on-T} {s : Answer} → a ≡ a′ → answer (a′ .held) c ≡ s → b ≡ b′
+    → stepped (answer (a .held) c) (b .held .clock .step) ≡ stepped s (b′ .held .clock .step)
+says c p q r = λ i. stepped ((ap (λ (h : History on-T). answer (h .held) c) p ∙ q) i) (r i .held .clock .step)
+
 also : {x y : Outcome} {xs ys : List Outcome} → x ≡ y → xs ≡ ys → _≡_ {A = List Outcome} (x ∷ xs) (y ∷ ys)
 also p ps = λ i. p i ∷ ps i
 
+abbrev of-step : StepOut → Answer
+of-step o = o .reply .answer
+
+path-is : end .path ≡ east ∷ north ∷ []
+path-is = ap (λ (h : History on-T). h .path) is-6
+
 pub computed-holds : ComputedHolds
-unfolding computed
-computed-holds =
-    also (λ i. line (ap (λ (o : After). o .reply .answer) opened i) (is-1 i))
-    (also (ap run is-1)
-    (also (λ i. line (did-2 i .reply .answer) (is-2 i))
-    (also (λ i. line (did-3 i .reply .answer) (is-3 i))
-    (also (ap run (is-3 ∙ sym is-2))
-    (also ((λ i. line (did-4 i .answer) (is-3 i)) ∙ ap (λ (a : Answer). line a first) saves)
-    (also (λ i. line (did-5 i .reply .answer) (is-5 i))
-    (also (λ i. line (did-6 i .reply .answer) (is-6 i))
-    (also (ap run (is-6 ∙ sym is-3))
-    (also (λ i. line (did-7 i .reply .answer) (is-7 i))
-    (also (ap run (is-7 ∙ sym equations-both))
-    (also (ap (λ (r : Held). count (bits (getD (r .state) 6 nan))) is-7 ∙ ap count pattern) refl)))))))))))
+computed-holds = record {
+  opens = opens;
+  own = own-calls;
+  answered =
+      also (says (step east T-rooms) is-0 (ap of-step to-first) is-1)
+      (also (says (step flood T-rooms) is-1 (ap of-step floods) is-2)
+      (also (says (save text-room) is-2 saves is-3)
+      (also (says (step calm T-rooms) is-3 (ap of-step to-calmed) is-4)
+      (also (says (load text) is-4 (ap (λ (o : After). o .reply .answer) did-load) is-5)
+      (also (says (step north T-rooms) is-5 (ap of-step to-turned) is-6) refl)))));
+  refused-step = is-2 ∙ sym is-1;
+  loaded-run = is-5 ∙ sym is-3;
+  path = path-is;
+  held = demand3-at-surge T T-parameters calls own-calls ∙ ap (along on-T) path-is;
+  second = ap (λ (h : History on-T). h .held .clock .step) is-6;
+  pattern = ap (λ (h : History on-T). bits (getD (h .held .state) 6 nan)) is-6 ∙ pattern-is;
+}

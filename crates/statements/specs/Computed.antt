@@ -1,131 +1,123 @@
--- A history on mesh T, worked out call by call, so that what is said of every history is seen to be said of one that saves, loads and steps:
--- open, step, a refused step, save, step, load, step.
+-- A sequence of calls on mesh T, worked out call by call in the words of demand 3, so that what is said there of every sequence is seen to be said of one
+-- that steps, is refused a step, saves, steps, loads what it saved, and steps again.
 use Prim.Native.Nat.{ℕ}
 use mathlib.Core.Path.{_≡_}
+use mathlib.Core.Bool.{false}
 use mathlib.Core.List.{List, [], _∷_, map}
+use lib.Dec.{T as Holds}
 use lib.ListN.{replicate, take, getD}
-use lib.Ieee.{nan}
+use lib.Ieee.{binary64, fits, nan}
+use lib.Ieee.Fits.{round-fits}
 use Rattle.lists.specs.declared.rows.Answer.{Answer}
 use Rattle.lists.specs.Table.{table}
 use Rattle.lists.specs.Scan.{accepted, refused, decimal}
-use Rattle.surge.specs.declared.Forcing.{Forcing}
-use Rattle.surge.specs.Lent.{coldState, coldClock, After}
 use Rattle.surge.specs.Open.{openOf}
-use Rattle.surge.specs.Step.{Held, StepOut, given, advance, stepOf}
+use Rattle.surge.specs.Step.{Held, given, stepOf}
 use Rattle.saves.specs.Lines.{bits}
-use Rattle.saves.specs.Save.{SaveOut, wrote, saveOf}
+use Rattle.saves.specs.Save.{wrote, saveOf}
 use Rattle.saves.specs.Load.{loadOf}
-use Rattle.saves.specs.Forcings.{still}
-use Rattle.statements.specs.Examples.{Outcome, stepped, run, count, Example, example, T, T-parameters, T-rooms}
+use Rattle.history.specs.History.{Calls, Call, step, save, load, History, begun, after, history, AllOwn, along}
+use Rattle.statements.specs.Demand3.{Weather, saved, surge}
+use Rattle.statements.specs.RoundTrip.{gives}
+use Rattle.statements.specs.Examples.{Outcome, stepped, T, T-parameters, T-rooms}
 
--- "A forcing is the new open elevation, then new wind Wx', Wy'": (0, 1/64, 0), (0, 0, 1/64), and one whose elevation is beyond 30
-abbrev pub east : Forcing
-east = record { elevation = decimal 0 1; wx = decimal 1 64; wy = decimal 0 1 }
+-- demand 3's calls, of a run on T
+abbrev pub on-T : Calls
+on-T = surge T T-parameters
 
-abbrev pub north : Forcing
-north = record { elevation = decimal 0 1; wx = decimal 0 1; wy = decimal 1 64 }
+-- ---- the forcings
+-- the binary64 nearest n / d is a binary64
+pub decimal-fits : (n d : ℕ) → Holds (fits binary64 (decimal n d))
+unfolding decimal
+decimal-fits n d = round-fits binary64 false n d
 
-abbrev pub flood : Forcing
-flood = record { elevation = decimal 31 1; wx = decimal 0 1; wy = decimal 0 1 }
+-- "A forcing is the new open elevation, then new wind Wx', Wy'": the elevation in whole metres, and the wind in 64ths
+abbrev pub weather : ℕ → ℕ → ℕ → Weather
+weather z x y = record {
+  forcing = record { elevation = decimal z 1; wx = decimal x 64; wy = decimal y 64 };
+  elevation = decimal-fits z 1;
+  wx = decimal-fits x 64;
+  wy = decimal-fits y 64;
+}
 
--- ---- the calls in turn, and the run that is held after each
+-- (0, 1/64, 0), (0, 0, 1/64), (0, 0, 0), and one whose elevation is beyond 30
+abbrev pub east : Weather
+east = weather 0 1 0
 
--- the state and the clock that opening or loading leaves
-abbrev pub left : After → Held
-left o = record { state = o .state; clock = o .reply .clock }
+abbrev pub north : Weather
+north = weather 0 0 1
 
--- a step on T; where it is accepted the next state is taken up, and where it is refused the state that was lent stays; with the clock handed back
-abbrev pub step : Held → Forcing → StepOut
-step r f = stepOf (given T T-parameters (r .state) (r .clock) f) T-rooms
+abbrev pub calm : Weather
+calm = weather 0 0 0
 
-abbrev pub taken : StepOut → Held
-taken o = record { state = o .rooms .next; clock = o .reply .clock }
+abbrev pub flood : Weather
+flood = weather 31 0 0
 
-abbrev pub kept : Held → StepOut → Held
-kept r o = record { state = r .state; clock = o .reply .clock }
+-- ---- the calls
+-- a room of 300 bytes, and the text that a save of the run held after the first two calls writes to it
+abbrev pub text-room : List ℕ
+text-room = replicate 300 0
 
--- opened over twelve sevens
-unfoldable pub call1 : After
-call1 = openOf T T-parameters (table 12 (λ _. decimal 7 1))
+unfoldable pub text : List ℕ
+text = saved T T-parameters (history on-T (step east T-rooms ∷ step flood T-rooms ∷ []) .held) text-room .text
 
-unfoldable pub run1 : Held
-run1 = left call1
+-- a call, and beside it what it answers, with the step number of the run that is held after it
+pub record Line : Type 0 where
+  pub call : Call on-T
+  pub says : Outcome
 
-unfoldable pub call2 : StepOut
-call2 = step run1 east
+abbrev pub line : Call on-T → Outcome → Line
+line c s = record { call = c; says = s }
 
-unfoldable pub run2 : Held
-run2 = taken call2
-
-unfoldable pub call3 : StepOut
-call3 = step run2 flood
-
-unfoldable pub run3 : Held
-run3 = kept run2 call3
-
--- saved into a room of 300 bytes; the text is as many bytes as the answer's place says
-unfoldable pub call4 : SaveOut
-call4 = saveOf T T-parameters (run3 .state) (run3 .clock) (replicate 300 0)
-
-unfoldable pub saved : List ℕ
-saved = take (call4 .answer .place) (call4 .text)
-
-unfoldable pub call5 : StepOut
-call5 = step run3 still
-
-unfoldable pub run5 : Held
-run5 = taken call5
-
-unfoldable pub call6 : After
-call6 = loadOf T T-parameters saved (run5 .state) (run5 .clock)
-
-unfoldable pub run6 : Held
-run6 = left call6
-
-unfoldable pub call7 : StepOut
-call7 = step run6 north
-
-unfoldable pub run7 : Held
-run7 = taken call7
-
--- ---- the equations alone, along a list of forcings
-abbrev pub along : Held → List Forcing → Held
-along r [] = r
-along r (f ∷ fs) = along (advance (given T T-parameters (r .state) (r .clock) f)) fs
-
-abbrev pub cold : Held
-cold = record { state = coldState 3; clock = coldClock }
-
--- ---- the table
--- what a call answered, with the step number of the run that is held after it
-abbrev pub line : Answer → Held → Outcome
-line a r = stepped a (r .clock .step)
-
-unfoldable pub computed : List Example
+abbrev pub computed : List Line
 computed =
-    -- open: the cold run
-    example (line (call1 .reply .answer) run1) (stepped accepted 0)
-    ∷ example (run run1) (run cold)
-    -- a step with (0, 1/64, 0)
-    ∷ example (line (call2 .reply .answer) run2) (stepped accepted 1)
-    -- a step with an elevation of 31 is refused, and leaves the run
-    ∷ example (line (call3 .reply .answer) run3) (stepped (refused 12 1) 1)
-    ∷ example (run run3) (run run2)
-    -- a save, of 289 bytes
-    ∷ example (line (call4 .answer) run3) (stepped (wrote 289) 1)
-    -- a step with (0, 0, 0)
-    ∷ example (line (call5 .reply .answer) run5) (stepped accepted 2)
-    -- a load of what was saved, which gives back the run as it was then
-    ∷ example (line (call6 .reply .answer) run6) (stepped accepted 1)
-    ∷ example (run run6) (run run3)
-    -- a step with (0, 0, 1/64)
-    ∷ example (line (call7 .reply .answer) run7) (stepped accepted 2)
-    -- the run held at the end is what the equations give along the forcings that lie on its path: not the refused one, nor the one before the load
-    ∷ example (run run7) (run (along cold (east ∷ north ∷ [])))
-    -- it is not the cold run: U of node 0 has the pattern 3F5F3F20A73F748A, as in example 13
-    ∷ example (count (bits (getD (run7 .state) 6 nan))) (count 4566437956654429322)
+    line (step east T-rooms) (stepped accepted 1)
+    -- an elevation of 31 is refused
+    ∷ line (step flood T-rooms) (stepped (refused 12 1) 1)
+    -- 289 bytes are written
+    ∷ line (save text-room) (stepped (wrote 289) 1)
+    ∷ line (step calm T-rooms) (stepped accepted 2)
+    -- back to the step number of the save
+    ∷ line (load text) (stepped accepted 1)
+    ∷ line (step north T-rooms) (stepped accepted 2)
     ∷ []
 
--- the one statement: each call gives what stands beside it
-abbrev pub ComputedHolds : Type 0
-ComputedHolds = map (λ (e : Example). e .gives) computed ≡ map (λ (e : Example). e .says) computed
+abbrev pub calls : List (Call on-T)
+calls = map (λ (l : Line). l .call) computed
+
+-- what is held after the first k of the calls (the run, its path, and what was saved), and after all of them
+abbrev pub at : ℕ → History on-T
+at k = history on-T (take k calls)
+
+abbrev pub end : History on-T
+end = history on-T calls
+
+-- what a call answers on the run r, and what each call of a sequence answers in turn, with the step number of the run that is held after it
+abbrev pub answer : Held → Call on-T → Answer
+answer r (step f rooms) = stepOf (given T T-parameters (r .state) (r .clock) (f .forcing)) rooms .reply .answer
+answer r (save room) = saveOf T T-parameters (r .state) (r .clock) room .answer
+answer r (load t) = loadOf T T-parameters t (r .state) (r .clock) .reply .answer
+
+abbrev pub answers : History on-T → List (Call on-T) → List Outcome
+answers a [] = []
+answers a (c ∷ cs) = let b = after on-T a c in stepped (answer (a .held) c) (b .held .clock .step) ∷ answers b cs
+
+-- ---- the statement
+pub record ComputedHolds : Type 0 where
+  -- opening T, over twelve sevens, is accepted and hands back the cold run, from which demand 3 begins
+  pub opens : openOf T T-parameters (table 12 (λ _. decimal 7 1)) ≡ gives (on-T .cold .state) (on-T .cold .clock)
+  -- demand 3's premise holds of the calls: the text that is loaded was saved before, and is not altered
+  pub own : AllOwn on-T (begun on-T) calls
+  -- each call answers what stands beside it
+  pub answered : answers (begun on-T) calls ≡ map (λ (l : Line). l .says) computed
+  -- the refused step leaves the run held and its path
+  pub refused-step : at 2 ≡ at 1
+  -- the load gives back the run as it was after the save, and puts its path back
+  pub loaded-run : at 5 ≡ at 3
+  -- the path at the end has neither the forcing that was refused nor the one of the step before the load
+  pub path : end .path ≡ east ∷ north ∷ []
+  -- the run held at the end is what the equations give from the cold start along that path
+  pub held : end .held ≡ along on-T (east ∷ north ∷ [])
+  -- it is not the cold run: its step number is 2, and U of node 0 has the pattern 3F5F3F20A73F748A, as in example 13
+  pub second : end .held .clock .step ≡ 2
+  pub pattern : bits (getD (end .held .state) 6 nan) ≡ 4566437956654429322

@@ -14,20 +14,19 @@ use Rattle.frames.specs.Frames.{text}
 use Rattle.surge.specs.Lent.{Mesh, mesh, N, corners, coldState, coldClock}
 use Rattle.surge.specs.Geometry.{sides, D}
 use Rattle.surge.specs.Open.{openAnswer}
-use Rattle.surge.specs.Step.{Held, given, Rooms, lentRooms, stepOf}
+use Rattle.surge.specs.Step.{given, Rooms, lentRooms, stepOf}
 use Rattle.saves.specs.Lines.{head, end}
 use Rattle.saves.specs.Save.{linesTo, saveText}
 use Rattle.saves.specs.Load.{loadAnswer}
 use Rattle.saves.specs.Forcings.{still}
 
 -- what an example speaks of: the a, b and D of a triangle, the whole answer of a call (number, place and value), a count, an answer with the
--- step number of the clock that is held after it, a run, or a text
+-- step number of the clock that is held after it, or a text
 pub data Outcome : Type 0 where
   triangle : WholeSides → ℤ → Outcome
   answer : Answer → Outcome
   count : ℕ → Outcome
   stepped : Answer → ℕ → Outcome
-  run : Held → Outcome
   characters : List ℕ → Outcome
 
 pub record Example : Type 0 where
