@@ -15,6 +15,25 @@ const NAN_PATTERN: u64 = 0x7FF8_0000_0000_0000;
 /// "Upper-case hexadecimal".
 const DIGITS: &[u8; 16] = b"0123456789ABCDEF";
 
+/// The two upper-case digits of a byte.
+pub(crate) fn two_digits(byte: u8) -> [u8; 2] {
+    [byte >> 4, byte & 0x0F].map(|digit| DIGITS[usize::from(digit)])
+}
+
+/// The byte that two upper-case digits stand for.
+pub(crate) fn byte_of([high, low]: [u8; 2]) -> Option<u8> {
+    Some(16 * digit(high)? + digit(low)?)
+}
+
+/// A float's pattern, the one NaN's for every NaN.
+pub(crate) fn pattern(value: f64) -> u64 {
+    if value.is_nan() {
+        NAN_PATTERN
+    } else {
+        value.to_bits()
+    }
+}
+
 /// A kind of line: its kind byte and how many digits it has.
 #[derive(Clone, Copy)]
 pub(crate) struct Kind {
@@ -65,12 +84,17 @@ pub(crate) struct Line {
 impl Line {
     /// A line's "kind byte, two-byte sequence".
     pub fn begin(kind: Kind, sequence: u16) -> Line {
+        Line::of(&[kind.byte]).two_bytes(sequence)
+    }
+
+    /// A line that begins with any frame bytes.
+    pub fn of(bytes: &[u8]) -> Line {
         let empty = Line {
             bytes: [0; LONGEST_LINE],
             length: 0,
             sum: 0,
         };
-        empty.frame_byte(kind.byte).two_bytes(sequence)
+        empty.frame_bytes(bytes)
     }
 
     /// "Numbers are big-endian".
@@ -85,12 +109,7 @@ impl Line {
 
     /// "floats are their 8-byte patterns".
     pub fn float(self, value: f64) -> Line {
-        let pattern = if value.is_nan() {
-            NAN_PATTERN
-        } else {
-            value.to_bits()
-        };
-        self.frame_bytes(&pattern.to_be_bytes())
+        self.frame_bytes(&pattern(value).to_be_bytes())
     }
 
     /// The check byte and the line feed: "All frame bytes sum to 0 modulo 256."
@@ -109,8 +128,8 @@ impl Line {
 
     fn frame_byte(mut self, byte: u8) -> Line {
         self.sum = self.sum.wrapping_add(byte);
-        self.push(DIGITS[usize::from(byte >> 4)])
-            .push(DIGITS[usize::from(byte & 0x0F)])
+        let [high, low] = two_digits(byte);
+        self.push(high).push(low)
     }
 
     /// No kind of line is longer than the room, so that no byte is dropped.
@@ -143,8 +162,8 @@ impl Frame {
         }
         let mut bytes = [0; LONGEST_FRAME];
         let (pairs, _) = digits.as_chunks::<2>();
-        for (byte, &[high, low]) in bytes.iter_mut().zip(pairs) {
-            *byte = 16 * digit(high).ok_or(20u32)? + digit(low).ok_or(20u32)?;
+        for (byte, &pair) in bytes.iter_mut().zip(pairs) {
+            *byte = byte_of(pair).ok_or(20u32)?;
         }
         if bytes.iter().fold(0u8, |sum, &byte| sum.wrapping_add(byte)) != 0 {
             return Err(21);
@@ -169,11 +188,7 @@ impl Frame {
     /// The float whose pattern begins at a frame byte.
     pub fn float(&self, at: usize) -> f64 {
         let value = f64::from_bits(u64::from_be_bytes(self.bytes_at(at)));
-        if value.is_nan() {
-            f64::from_bits(NAN_PATTERN)
-        } else {
-            value
-        }
+        f64::from_bits(pattern(value))
     }
 
     fn bytes_at<const COUNT: usize>(&self, at: usize) -> [u8; COUNT] {

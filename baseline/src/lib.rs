@@ -11,26 +11,35 @@
 //! - [`frames`]: digits, fields, check byte, line faults, [`read_forcing`];
 //! - [`saves`]: [`save`] and [`load`];
 //! - [`printing`]: the printing program and example 13 on mesh T;
-//! - [`cases`]: inputs on which the printing program is tried.
+//! - [`cases`](mod@cases): inputs on which the printing program is tried;
+//! - [`script`]: calls written down, as `docs/SCRIPT.md` says, [`run`];
+//! - [`generate`](mod@generate): scripts drawn from a seed, [`generate()`];
+//! - [`coverage`](mod@coverage): what generated scripts reach, [`coverage()`].
 
 #![forbid(unsafe_code)]
 #![warn(missing_docs)]
 
 pub mod cases;
+pub mod coverage;
 pub mod frames;
+pub mod generate;
 pub mod mesh;
 pub mod printing;
 pub mod saves;
+pub mod script;
 pub mod step;
 
 #[cfg(test)]
 mod tests;
 
 pub use cases::{cases, Case};
+pub use coverage::coverage;
 pub use frames::read_forcing;
+pub use generate::generate;
 pub use mesh::open;
 pub use printing::{example_13, print};
 pub use saves::{load, save};
+pub use script::{run, Printed};
 pub use step::step;
 
 /// "Each answer has number, place and value; the value is +0 except at 13, the

@@ -98,7 +98,7 @@ impl<'a> Mesh<'a> {
 
     /// The differences of one triangle; only for node numbers that row 3 lets
     /// through. The difference of two `i32` always fits an `i64`.
-    fn triangle(&self, corners: [usize; 3]) -> Triangle {
+    pub fn triangle(&self, corners: [usize; 3]) -> Triangle {
         let [x1, x2, x3] = corners.map(|node| i64::from(self.x[node]));
         let [y1, y2, y3] = corners.map(|node| i64::from(self.y[node]));
         Triangle {

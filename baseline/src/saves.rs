@@ -100,7 +100,7 @@ fn is_count(field: u16, count: usize) -> bool {
 
 /// The state and clock that a text holds: "the lines, from 0, in each 20, 21,
 /// 22, 23", "then trailing bytes (20, line N+2)".
-fn read_lines(text: &[u8], mesh: &Mesh) -> Result<(Vec<f64>, Clock), Answer> {
+pub(crate) fn read_lines(text: &[u8], mesh: &Mesh) -> Result<(Vec<f64>, Clock), Answer> {
     let n = mesh.nodes();
     let mut reader = Reader {
         rest: text,

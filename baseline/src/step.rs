@@ -327,7 +327,7 @@ impl Water {
 }
 
 /// The new values of every node, z' then U' then V', left in the work room.
-fn new_values(
+pub(crate) fn new_values(
     work: &mut [f64],
     sums: &mut [u64],
     mesh: &Mesh,

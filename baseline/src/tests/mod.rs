@@ -2,9 +2,11 @@
 
 mod examples;
 mod frames;
+mod generate;
 mod mesh;
 mod printing;
 mod saves;
+mod script;
 mod step;
 
 use crate::printing::{H, KIND, P, TRI, X, Y};

@@ -1,0 +1,176 @@
+//! What generated scripts reach: how many of them get each number of the
+//! refusal table from each call, and at each condition of its row.
+
+mod conditions;
+mod ranges;
+
+use crate::generate::generate;
+use crate::script::{run_watched, Call, Called, Script};
+use conditions::conditions;
+use ranges::{all_conditions, Reached};
+use std::collections::{BTreeMap, BTreeSet};
+
+/// Every number that a call can answer.
+const NUMBERS: [u32; 19] = [
+    0, 1, 2, 3, 4, 5, 6, 7, 8, 9, 10, 11, 12, 13, 20, 21, 22, 23, 24,
+];
+
+/// The rows whose places are told apart.
+const PLACED: [u32; 2] = [9, 12];
+
+/// How many scripts reached each thing.
+struct Counts<T>(BTreeMap<T, usize>);
+
+impl<T> Default for Counts<T> {
+    fn default() -> Counts<T> {
+        Counts(BTreeMap::new())
+    }
+}
+
+impl<T: Ord> Counts<T> {
+    /// Counts a script for each thing that it reached.
+    fn add(&mut self, reached: BTreeSet<T>) {
+        for thing in reached {
+            *self.0.entry(thing).or_default() += 1;
+        }
+    }
+
+    fn of(&self, thing: &T) -> usize {
+        self.0.get(thing).copied().unwrap_or(0)
+    }
+}
+
+/// What one script reached.
+#[derive(Default)]
+struct Trail {
+    numbers: BTreeSet<(Call, u32)>,
+    places: BTreeSet<(Call, u32, usize)>,
+    conditions: BTreeSet<Reached>,
+    calls: usize,
+}
+
+impl Trail {
+    fn watch(&mut self, script: &Script, called: Called) {
+        let (call, number) = (called.call, called.answer.number);
+        self.calls += 1;
+        self.numbers.insert((call, number));
+        if PLACED.contains(&number) {
+            self.places.insert((call, number, called.answer.place));
+        }
+        for condition in conditions(script, called) {
+            self.conditions.insert((call, number, condition));
+        }
+    }
+}
+
+/// The pairs of rows that were broken at once, a row with itself among them, by
+/// what the script echoed.
+fn pairs(printed: &[u8]) -> BTreeSet<(u32, u32)> {
+    let mut pairs = BTreeSet::new();
+    for line in String::from_utf8_lossy(printed).lines() {
+        let Some(words) = line.strip_prefix("echo rows ") else {
+            continue;
+        };
+        let rows: Vec<u32> = words.split(' ').flat_map(str::parse).collect();
+        for (at, &one) in rows.iter().enumerate() {
+            let others = rows[at + 1..].iter();
+            pairs.extend(others.map(|&other| (one.min(other), one.max(other))));
+        }
+    }
+    pairs
+}
+
+/// The counts over all scripts.
+#[derive(Default)]
+struct Coverage {
+    scripts: usize,
+    bad_lines: usize,
+    calls: usize,
+    numbers: Counts<(Call, u32)>,
+    places: Counts<(Call, u32, usize)>,
+    conditions: Counts<Reached>,
+    pairs: Counts<(u32, u32)>,
+}
+
+impl Coverage {
+    /// Runs a script and counts it.
+    fn add(&mut self, script: &[u8]) {
+        let mut trail = Trail::default();
+        let printed = run_watched(script, |script, called| trail.watch(script, called));
+        self.scripts += 1;
+        self.bad_lines += usize::from(printed.bad_line.is_some());
+        self.calls += trail.calls;
+        self.numbers.add(trail.numbers);
+        self.places.add(trail.places);
+        self.conditions.add(trail.conditions);
+        self.pairs.add(pairs(&printed.text));
+    }
+
+    /// The conditions that no script reached.
+    fn missed(&self) -> Vec<Reached> {
+        let mut all = all_conditions();
+        all.retain(|condition| self.conditions.of(condition) == 0);
+        all
+    }
+
+    fn text(&self) -> String {
+        let mut text = format!(
+            "scripts {}, with a bad line {}, calls {}\n\n{}\n",
+            self.scripts,
+            self.bad_lines,
+            self.calls,
+            self.numbers_table()
+        );
+        for ((call, number, place), scripts) in &self.places.0 {
+            let name = call.name();
+            text += &format!("{name} {number} at place {place}: {scripts}\n");
+        }
+        text += "\n";
+        for ((call, number, condition), scripts) in &self.conditions.0 {
+            let name = call.name();
+            text += &format!("{name} {number}, {condition}: {scripts}\n");
+        }
+        text + &self.ending()
+    }
+
+    /// A row for each number, a column for each call.
+    fn numbers_table(&self) -> String {
+        let mut table = String::from("number");
+        for call in Call::ALL {
+            table += &format!("{:>7}", call.name());
+        }
+        table += "\n";
+        for number in NUMBERS {
+            table += &format!("{number:>6}");
+            for call in Call::ALL {
+                match self.numbers.of(&(call, number)) {
+                    0 => table += "      -",
+                    scripts => table += &format!("{scripts:>7}"),
+                }
+            }
+            table += "\n";
+        }
+        table
+    }
+
+    fn ending(&self) -> String {
+        let (all, missed) = (all_conditions().len(), self.missed());
+        let mut text = format!("\npairs of rows broken at once: {}\n", self.pairs.0.len());
+        text += &format!("conditions reached: {} of {all}\n", all - missed.len());
+        for (call, number, condition) in missed {
+            text += &format!("missed: {} {number}, {condition}\n", call.name());
+        }
+        text
+    }
+}
+
+/// Runs the scripts of a seed and tells what they reached; and whether they
+/// reached everything, with no bad line.
+pub fn coverage(seed: u64, first: u64, count: u64) -> (String, bool) {
+    let mut coverage = Coverage::default();
+    for index in first..first.saturating_add(count) {
+        coverage.add(&generate(seed, index));
+    }
+    let whole = coverage.missed().is_empty() && coverage.bad_lines == 0;
+    (coverage.text(), whole)
+}

@@ -1,0 +1,160 @@
+//! The sides of a range, and all that a coverage is to reach.
+
+use super::conditions::{lent_to, PARAMETER_NAMES, RUN_NAMES};
+use crate::generate::values::Range;
+use crate::script::Call;
+
+/// What is said of a value at one of its limits.
+pub(crate) const LIMITS: [&str; 2] = ["least", "most"];
+
+/// The ways to be beyond a range that must be reached.
+const SIDES: [&str; 5] = ["one bit below", "one bit above", "below", "above", "NaN"];
+
+/// The side of a range that a value is beyond, where it is.
+pub(crate) fn side(value: f64, range: Range) -> Option<&'static str> {
+    let at = if value == range.low.next_down() {
+        0
+    } else if value == range.high.next_up() {
+        1
+    } else if value < range.low {
+        2
+    } else if value > range.high {
+        3
+    } else if value.is_nan() {
+        4
+    } else {
+        return None;
+    };
+    Some(SIDES[at])
+}
+
+/// A call, a number of the refusal table, and a condition of it.
+pub(crate) type Reached = (Call, u32, String);
+
+/// The four calls on a run.
+const ON_A_RUN: [Call; 4] = [Call::Open, Call::Step, Call::Save, Call::Load];
+
+/// All that must be reached.
+pub(crate) fn all_conditions() -> Vec<Reached> {
+    let mut all = Vec::new();
+    for call in ON_A_RUN {
+        all.extend(lengths(call));
+        all.extend(of(call, 2, &["N 2", "N 4097", "E 0", "E 8193"]));
+        all.extend(mesh_rows(call));
+        all.extend(of(call, 0, &["N 3", "N 4096", "E 1", "E 8192"]));
+        if call != Call::Open {
+            all.extend(of(call, 0, &["a leg twice"]));
+            all.extend(beyond(call, 10, &RUN_NAMES));
+            all.extend(of(call, 10, &["h+z just below"]));
+            all.extend(beyond(call, 12, &["held Wx", "held Wy"]));
+        }
+    }
+    for (later, earlier) in (0..9).map(|pair| (1 + pair / 3, 1 + pair % 3)) {
+        all.push((Call::Open, 6, format!("leg {later} as leg {earlier}")));
+    }
+    all.extend(step_rows());
+    all.extend(of(Call::Save, 24, &["one shorter", "empty"]));
+    all.extend(of(Call::Save, 0, &["room just enough", "room to spare"]));
+    all.extend(text_rows());
+    all.extend(line_rows());
+    all
+}
+
+fn of(call: Call, number: u32, conditions: &[&str]) -> Vec<Reached> {
+    let reached = |condition: &&str| (call, number, condition.to_string());
+    conditions.iter().map(reached).collect()
+}
+
+/// Each name with each of some endings.
+fn each(call: Call, number: u32, names: &[&str], endings: &[&str]) -> Vec<Reached> {
+    let mut all = Vec::new();
+    for name in names {
+        for ending in endings {
+            all.push((call, number, format!("{name} {ending}")));
+        }
+    }
+    all
+}
+
+/// Each name beyond its range on each side.
+fn beyond(call: Call, number: u32, names: &[&str]) -> Vec<Reached> {
+    each(call, number, names, &SIDES)
+}
+
+/// Row 1: each slice lent to the call.
+fn lengths(call: Call) -> Vec<Reached> {
+    let mut names: Vec<&str> = lent_to(call).iter().map(|&(name, _)| name).collect();
+    names.push("x");
+    let mut all = each(call, 1, &names, &["one shorter", "one longer", "empty"]);
+    all.extend(of(call, 1, &["tri 1 over", "tri 2 over"]));
+    all
+}
+
+/// Rows 3 to 9 but 6.
+fn mesh_rows(call: Call) -> Vec<Reached> {
+    let corners = ["corner 1", "corner 2", "corner 3"];
+    let sides = ["a1", "a2", "a3", "b1", "b2", "b3"];
+    let beyond_sides = ["100,001", "-100,001", "far above", "far below"];
+    let mut all = each(call, 3, &corners, &["is N", "is above N"]);
+    all.extend(each(call, 4, &sides, &beyond_sides));
+    all.extend(of(call, 5, &["clockwise", "flat", "a corner twice"]));
+    all.extend(of(call, 7, &["first node", "node between", "last node"]));
+    all.extend(beyond(call, 8, &["h"]));
+    all.extend(of(call, 8, &["kind 3", "kind above 3"]));
+    all.extend(beyond(call, 9, &PARAMETER_NAMES));
+    all
+}
+
+/// Rows 12 and 13 of a step, and the limits that it accepts.
+fn step_rows() -> Vec<Reached> {
+    let forcing = ["elevation", "Wx'", "Wy'"];
+    let mut all = beyond(Call::Step, 12, &forcing);
+    let new = each(Call::Step, 13, &["z'", "U'", "V'"], &["below", "above"]);
+    all.extend(new);
+    all.extend(of(Call::Step, 13, &["H' below", "H' just below"]));
+    for names in [&PARAMETER_NAMES[..], &RUN_NAMES, &forcing, &["h"]] {
+        all.extend(each(Call::Step, 0, names, &LIMITS));
+    }
+    let others = ["h+z just enough", "step 4,294,967,294"];
+    all.extend(of(Call::Step, 0, &others));
+    all.extend(of(Call::Step, 0, &["kind 0", "kind 1", "kind 2"]));
+    all
+}
+
+/// The faults of row 20 that a line of a text and a forcing line both have. A
+/// text's line that is too long has no line feed where it is due.
+const LINE_FAULTS: [&str; 6] = [
+    "missing",
+    "too short",
+    "no line feed",
+    "lower case",
+    "line feed too early",
+    "wrong digit",
+];
+
+/// Rows 20 to 23 of a load.
+fn text_rows() -> Vec<Reached> {
+    let lines = ["head", "node", "end"];
+    let mut all = each(Call::Load, 20, &lines, &LINE_FAULTS);
+    all.extend(of(Call::Load, 20, &["trailing"]));
+    all.extend(of(Call::Load, 21, &lines));
+    all.extend(each(Call::Load, 22, &lines, &["kind", "sequence"]));
+    all.extend(of(Call::Load, 23, &["head N", "head E", "end N"]));
+    all.extend(of(Call::Load, 0, &["last step"]));
+    all
+}
+
+/// Rows 20 to 22 of a forcing line.
+fn line_rows() -> Vec<Reached> {
+    let mut all = of(Call::Read, 20, &LINE_FAULTS);
+    all.extend(of(Call::Read, 20, &["too long"]));
+    all.extend(of(Call::Read, 21, &["check byte"]));
+    let beginnings = ["kind", "sequence", "expected above 65,535"];
+    all.extend(of(Call::Read, 22, &beginnings));
+    all.extend(of(
+        Call::Read,
+        0,
+        &["sequence 0", "sequence 65535", "a NaN"],
+    ));
+    all
+}

@@ -1,0 +1,440 @@
+//! Faults: each row of the refusal table at each of its conditions, alone or
+//! several at once, and undone again.
+
+use super::pen::Pen;
+use super::runs::make_room;
+use super::settings::{any_manner, clock, forcing, save_length, set_state, small_size, start};
+use super::texts::damage;
+use super::values::{lowest_elevation, tested, word};
+use super::values::{DEPTH, ELEVATION, PARAMETERS, RUNS, WIND};
+use crate::script::Call;
+use crate::{Clock, Forcing, Parameters};
+
+/// Rounds of faults on one small mesh. In each, some faults are made, calls
+/// meet them, and they are undone.
+pub(crate) fn faults(pen: &mut Pen) {
+    let (nodes, manner) = (small_size(pen), any_manner(pen));
+    start(pen, nodes, manner);
+    make_room(pen, 0);
+    pen.call(Call::Save);
+    for _ in 0..6 + pen.dice.below(10) {
+        let forcing = forcing(pen, manner);
+        pen.set_forcing(forcing);
+        if !pen.dice.one_in(3) {
+            pen.work_rooms();
+        }
+        if pen.dice.one_in(6) {
+            nudge(pen);
+        } else {
+            round(pen);
+        }
+        pen.mend();
+        // The calls may have left a cold state and clock behind.
+        if pen.dice.one_in(2) {
+            set_state(pen, manner);
+            let clock = clock(pen);
+            pen.set_clock(clock);
+        }
+    }
+}
+
+/// One to three faults, and calls that meet them.
+fn round(pen: &mut Pen) {
+    let mut rows = String::from("echo rows");
+    for _ in 0..pen.dice.one_of(&[1, 1, 1, 2, 2, 3]) {
+        rows += &format!(" {}", fault(pen));
+    }
+    pen.say(rows);
+    let mut calls = [Call::Step, Call::Save, Call::Load, Call::Open];
+    pen.dice.shuffle(&mut calls);
+    for call in calls {
+        if !pen.dice.one_in(4) {
+            pen.call(call);
+        }
+    }
+}
+
+/// The rows of faults, as often as they have conditions to reach.
+const ROWS: [u32; 31] = [
+    1, 1, 1, 1, 2, 2, 3, 4, 4, 4, 5, 6, 6, 7, 7, 20, 24, // whole slices among them
+    8, 8, 9, 9, 10, 10, 10, 10, 10, 11, 12, 12, 12, 12, // single numbers
+];
+
+/// Where the faults of single numbers begin.
+const SINGLE: usize = 17;
+
+/// One fault. The row it is meant for.
+fn fault(pen: &mut Pen) -> u32 {
+    // Slices that are long already would make a long script if undone whole.
+    let long = pen.nodes() > 300 || pen.triangles() > 1_000;
+    let row = pen.dice.one_of(&ROWS[if long { SINGLE } else { 0 }..]);
+    match row {
+        1 => length(pen),
+        2 => counts(pen),
+        3 => number(pen),
+        4 => far_corner(pen),
+        5 => turned(pen),
+        6 => leg_again(pen),
+        7 => unnamed(pen),
+        8 => depth_or_kind(pen),
+        9 => parameter(pen),
+        10 => state(pen),
+        11 => last_step(pen),
+        12 => winds(pen),
+        20 => text(pen),
+        _ => room(pen),
+    }
+    row
+}
+
+/// 1: "triangle list no multiple of 3, or a slice of another length": one
+/// shorter, one longer, or empty.
+fn length(pen: &mut Pen) {
+    let names = [
+        "x", "y", "tri", "h", "kind", "state", "next", "work", "sums",
+    ];
+    let name = pen.dice.one_of(&names);
+    let length = pen.length(name);
+    let Some(last) = pen.words(name).pop() else {
+        return;
+    };
+    match pen.dice.below(3) {
+        0 => {
+            let less = length.saturating_sub(1);
+            pen.change(format!("keep {name} {less}"), format!("add {name} {last}"));
+        }
+        1 => pen.lengthen(name, &last),
+        _ => pen.change_slice(name, format!("set {name}")),
+    }
+}
+
+/// 2: "N not 3..4,096 or E not 1..8,192", and the limits themselves.
+fn counts(pen: &mut Pen) {
+    match pen.dice.below(4) {
+        0 => pen.change_slice("tri", String::from("set tri")),
+        1 => {
+            let count = pen.dice.one_of(&[8_193, 8_193, 8_192, 9_000, 21_845]);
+            pen.change_slice("tri", format!("fill tri {} 0", 3 * count));
+        }
+        2 => resize(pen, 2),
+        _ => {
+            let count = pen.dice.one_of(&[4_097, 4_097, 4_096, 5_000, 65_536, 1, 0]);
+            resize(pen, count);
+        }
+    }
+}
+
+/// Makes every slice that has runs of N elements fit another N.
+fn resize(pen: &mut Pen, nodes: usize) {
+    let zero = word(0.0);
+    for name in ["x", "y", "kind", "sums"] {
+        pen.change_slice(name, format!("fill {name} {nodes} 0"));
+    }
+    pen.change_slice("h", format!("fill h {nodes} {}", word(8.0)));
+    for (name, runs) in [("state", 4), ("next", 4), ("work", 3)] {
+        pen.change_slice(name, format!("fill {name} {} {zero}", runs * nodes));
+    }
+}
+
+/// Any triangle's number and corners, where there is one.
+fn any_triangle(pen: &mut Pen) -> (usize, [u16; 3]) {
+    let at = pen.triangles();
+    let at = pen.dice.below(at);
+    let corner = |i: usize| pen.script.tri.0.get(3 * at + i).copied().unwrap_or(0);
+    (at, [corner(0), corner(1), corner(2)])
+}
+
+/// 3: "a node number is N or more".
+fn number(pen: &mut Pen) {
+    let (at, corners) = any_triangle(pen);
+    let (corner, nodes) = (pen.dice.below(3), pen.nodes() as u16);
+    let above = nodes.saturating_add(1);
+    let new = pen.dice.one_of(&[nodes, nodes, above, u16::MAX]);
+    pen.change_element("tri", 3 * at + corner, new, corners[corner]);
+}
+
+/// 4: "an a or b beyond 100,000 in size", or just at that.
+fn far_corner(pen: &mut Pen) {
+    let (_, corners) = any_triangle(pen);
+    let (from, to) = pen
+        .dice
+        .one_of(&[(0, 1), (1, 2), (2, 0), (1, 0), (2, 1), (0, 2)]);
+    let (name, coordinates) = if pen.dice.one_in(2) {
+        ("x", &pen.script.x.0)
+    } else {
+        ("y", &pen.script.y.0)
+    };
+    let coordinate = |corner: usize| coordinates.get(usize::from(corners[corner])).copied();
+    let (Some(start), Some(old)) = (coordinate(from), coordinate(to)) else {
+        return;
+    };
+    let away = [100_001, -100_001, 100_001, -100_001, 100_000, -100_000];
+    let new = match pen.dice.below(6) {
+        0 => i32::MIN,
+        1 => i32::MAX,
+        _ => start.saturating_add(pen.dice.one_of(&away)),
+    };
+    pen.change_element(name, usize::from(corners[to]), new, old);
+}
+
+/// 5: "D is 0 or less": corners exchanged, a corner twice, or one node laid
+/// upon another.
+fn turned(pen: &mut Pen) {
+    let (at, corners) = any_triangle(pen);
+    let (one, other) = pen.dice.one_of(&[(0, 1), (1, 2), (2, 0)]);
+    match pen.dice.below(3) {
+        0 => {
+            pen.change_element("tri", 3 * at + one, corners[other], corners[one]);
+            pen.change_element("tri", 3 * at + other, corners[one], corners[other]);
+        }
+        1 => pen.change_element("tri", 3 * at + one, corners[other], corners[one]),
+        _ => lay_upon(pen, usize::from(corners[one]), usize::from(corners[other])),
+    }
+}
+
+/// Gives one node the place of another.
+fn lay_upon(pen: &mut Pen, node: usize, other: usize) {
+    let (x, y) = (pen.script.x.0.clone(), pen.script.y.0.clone());
+    for (name, list) in [("x", x), ("y", y)] {
+        if let (Some(&old), Some(&new)) = (list.get(node), list.get(other)) {
+            pen.change_element(name, node, new, old);
+        }
+    }
+}
+
+/// 6: "a directed leg (1-2, 2-3, 3-1) seen in an earlier triangle": one more
+/// triangle at the end, with a leg of an earlier one and any third corner.
+fn leg_again(pen: &mut Pen) {
+    let (_, corners) = any_triangle(pen);
+    let from = pen.dice.below(3);
+    let third = match pen.any_node() as u16 {
+        any if pen.dice.one_in(2) => any,
+        _ => corners[(from + 2) % 3],
+    };
+    let mut added = [corners[from], corners[(from + 1) % 3], third];
+    added.rotate_left(pen.dice.below(3));
+    let [c1, c2, c3] = added;
+    pen.lengthen("tri", &format!("{c1} {c2} {c3}"));
+}
+
+/// 7: "node in no triangle": triangles taken away, or a node added.
+fn unnamed(pen: &mut Pen) {
+    let triangles = pen.triangles();
+    if triangles > 1 && !pen.dice.one_in(3) {
+        let kept = 3 * (1 + pen.dice.below(triangles - 1));
+        let words = pen.words("tri");
+        let undo = format!("add tri {}", words[kept..].join(" "));
+        pen.change(format!("keep tri {kept}"), undo);
+        return;
+    }
+    let nodes = pen.nodes();
+    for name in ["x", "y", "kind", "sums"] {
+        pen.lengthen(name, "0");
+    }
+    pen.lengthen("h", &word(8.0));
+    for (name, runs) in [("state", 4), ("next", 4), ("work", 3)] {
+        let line = format!("fill {name} {} {}", runs * (nodes + 1), word(0.0));
+        pen.change_slice(name, line);
+    }
+    if pen.dice.one_in(2) {
+        name_the_last(pen, nodes);
+    }
+}
+
+/// Has the last triangle's first corner be the node that was added; the node
+/// that the corner named may then be in no triangle.
+fn name_the_last(pen: &mut Pen, added: usize) {
+    let Some(at) = pen.length("tri").checked_sub(3) else {
+        return;
+    };
+    let old = pen.script.tri.0[at];
+    lay_upon(pen, added, usize::from(old));
+    pen.change_element("tri", at, added, old);
+}
+
+/// 8: "h not 1..12,000, or kind above 2".
+fn depth_or_kind(pen: &mut Pen) {
+    let node = pen.any_node();
+    if pen.dice.one_in(3) {
+        let Some(&old) = pen.script.kind.0.get(node) else {
+            return;
+        };
+        let new = pen.dice.one_of(&[3, 3, 4, 128, 255, 2]);
+        pen.change_element("kind", node, new, old);
+        return;
+    }
+    let Some(&old) = pen.script.h.0.get(node) else {
+        return;
+    };
+    let new = tested(&mut pen.dice, DEPTH);
+    pen.change_element("h", node, word(new), word(old));
+}
+
+/// 9: "dt not 0.125..60, tau not 0..1, K not 0..1, f not -0.001..0.001".
+fn parameter(pen: &mut Pen) {
+    let p = pen.script.p;
+    let mut numbers = [p.dt, p.tau, p.k, p.f];
+    for _ in 0..1 + pen.dice.below(5) / 4 {
+        let place = pen.dice.below(4);
+        numbers[place] = tested(&mut pen.dice, PARAMETERS[place]);
+    }
+    let [dt, tau, k, f] = numbers;
+    pen.change_parameters(Parameters { dt, tau, k, f });
+}
+
+/// 10: "either z beyond 30 in size, present h+z below 0.1, U or V beyond 20".
+fn state(pen: &mut Pen) {
+    let (node, nodes) = (pen.any_node(), pen.nodes());
+    let run = pen.dice.below(5);
+    let (Some(&h), Some(range)) = (pen.script.h.0.get(node), RUNS.get(run)) else {
+        return dry(pen, node);
+    };
+    let new = tested(&mut pen.dice, *range);
+    // A node that a low z is tried at is to have the water for it.
+    if run == 1 && h < 31.0 {
+        pen.change_element("h", node, word(31.0), word(h));
+    }
+    change_state(pen, run * nodes + node, new);
+}
+
+/// Changes one number of the state.
+fn change_state(pen: &mut Pen, at: usize, new: f64) {
+    if let Some(&old) = pen.script.state.0.get(at) {
+        pen.change_element("state", at, word(new), word(old));
+    }
+}
+
+/// 10: "present h+z below 0.1", by one bit, or just not below.
+fn dry(pen: &mut Pen, node: usize) {
+    let Some(&old) = pen.script.h.0.get(node) else {
+        return;
+    };
+    let h = pen
+        .dice
+        .one_of(&[1.0, 1.5, 8.0, 30.0, 30.05, old.clamp(1.0, 30.0)]);
+    pen.change_element("h", node, word(h), word(old));
+    let lowest = lowest_elevation(h);
+    let z = pen.dice.one_of(&[lowest, lowest.next_down()]);
+    let at = pen.nodes() + node;
+    change_state(pen, at, z);
+}
+
+/// 11: "step number is 4,294,967,295", or one before it.
+fn last_step(pen: &mut Pen) {
+    let step = pen.dice.one_of(&[u32::MAX, u32::MAX, u32::MAX - 1]);
+    pen.change_clock(Clock {
+        step,
+        ..pen.script.clock
+    });
+}
+
+/// 12: "held wind beyond 0.1; forcing elevation beyond 30; Wx', Wy' beyond
+/// 0.1".
+fn winds(pen: &mut Pen) {
+    let (mut clock, mut forcing) = (pen.script.clock, pen.script.forcing);
+    for _ in 0..1 + pen.dice.below(5) / 4 {
+        let dice = &mut pen.dice;
+        match dice.below(5) {
+            0 => clock.wx = tested(dice, WIND),
+            1 => clock.wy = tested(dice, WIND),
+            2 => forcing.elevation = tested(dice, ELEVATION),
+            3 => forcing.wx = tested(dice, WIND),
+            _ => forcing.wy = tested(dice, WIND),
+        }
+    }
+    pen.change_clock(clock);
+    pen.change_forcing(forcing);
+}
+
+/// 20 to 23, and 12 and 10 of what is loaded.
+fn text(pen: &mut Pen) {
+    keep_text(pen);
+    damage(pen);
+}
+
+/// 24: "text room below 70+73N".
+fn room(pen: &mut Pen) {
+    keep_text(pen);
+    let needed = save_length(pen);
+    let any = pen.dice.below(needed);
+    let kept = pen.dice.one_of(&[needed - 1, needed - 1, 0, any]);
+    pen.say(format!("keep text {kept}"));
+}
+
+/// Has the text be undone to what it is now.
+fn keep_text(pen: &mut Pen) {
+    pen.change_slice("text", String::from("# the text is undone afterwards"));
+}
+
+/// 13: "z' beyond 30, H' below 0.1, U' or V' beyond 20": still water with a few
+/// nodes that stand at a limit and are pushed over it.
+fn nudge(pen: &mut Pen) {
+    let still = format!("fill state {} {}", 4 * pen.nodes(), word(0.0));
+    pen.change_slice("state", still);
+    pen.change_parameters(Parameters {
+        dt: 0.125,
+        tau: 0.0,
+        k: 0.0,
+        f: 0.0,
+    });
+    pen.change_clock(Clock {
+        step: 5,
+        wx: 0.0,
+        wy: 0.0,
+    });
+    for _ in 0..pen.dice.one_of(&[1, 1, 2, 3]) {
+        let node = pen.any_node();
+        match pen.dice.below(4) {
+            0 => rising(pen, node),
+            1 => low_tide(pen, node),
+            _ => fast(pen, node),
+        }
+    }
+    pen.say("echo rows 13");
+    pen.call(Call::Step);
+}
+
+/// A node's elevation goes on as it went, over the limit.
+fn rising(pen: &mut Pen, node: usize) {
+    let nodes = pen.nodes();
+    let sign = pen.dice.one_of(&[1.0, -1.0]);
+    let before = pen.dice.one_of(&[29.0, 30.0_f64.next_down(), 30.0]);
+    pen.change_element("h", node, word(64.0), word(pen.script.h.0[node]));
+    pen.change_element("kind", node, 0, pen.script.kind.0[node]);
+    change_state(pen, node, sign * before);
+    change_state(pen, nodes + node, sign * 30.0);
+}
+
+/// The open elevation leaves a node with just enough water, or one bit less.
+fn low_tide(pen: &mut Pen, node: usize) {
+    let h = pen.dice.one_of(&[1.0, 1.25, 8.0, 29.0]);
+    let lowest = lowest_elevation(h);
+    let elevation = pen.dice.one_of(&[lowest, lowest.next_down(), -30.0]);
+    pen.change_element("h", node, word(h), word(pen.script.h.0[node]));
+    pen.change_element("kind", node, 1, pen.script.kind.0[node]);
+    pen.change_forcing(Forcing {
+        elevation,
+        ..pen.script.forcing
+    });
+}
+
+/// A node's U or V stands at its limit, and the wind may blow that way.
+fn fast(pen: &mut Pen, node: usize) {
+    let (nodes, run) = (pen.nodes(), 2 + pen.dice.below(2));
+    let sign = pen.dice.one_of(&[1.0, -1.0]);
+    let wind = sign * pen.dice.one_of(&[0.1, 0.1, 0.0]);
+    pen.change_element("kind", node, 0, pen.script.kind.0[node]);
+    change_state(pen, run * nodes + node, sign * 20.0);
+    let forcing = pen.script.forcing;
+    pen.change_forcing(if run == 2 {
+        Forcing {
+            wx: wind,
+            ..forcing
+        }
+    } else {
+        Forcing {
+            wy: wind,
+            ..forcing
+        }
+    });
+}

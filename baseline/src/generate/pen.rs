@@ -1,0 +1,274 @@
+//! The pen that writes a script. Every line is run as it is written, so that
+//! the next one can be chosen by what the script then holds.
+
+use super::dice::Dice;
+use super::values::{anything, word};
+use super::worlds::World;
+use crate::frames::two_digits;
+use crate::script::{Call, Script};
+use crate::{Answer, Clock, Forcing, Parameters};
+use std::fmt::Display;
+
+/// Slices up to this length are printed, longer ones as a digest.
+const PRINTED: usize = 16;
+
+/// The slices that a call can write.
+fn written_by(call: Call) -> &'static [&'static str] {
+    match call {
+        Call::Open => &["state"],
+        Call::Step => &["state", "next", "work", "sums"],
+        Call::Save => &["state", "text"],
+        Call::Load => &["state", "text"],
+        Call::Read => &["line"],
+    }
+}
+
+/// A script under way.
+pub(crate) struct Pen {
+    pub dice: Dice,
+    pub script: Script,
+    written: Vec<u8>,
+    /// The lines that undo the faults under way, the latest last.
+    undo: Vec<String>,
+}
+
+impl Pen {
+    pub fn new(dice: Dice) -> Pen {
+        Pen {
+            dice,
+            script: Script::new(),
+            written: Vec::new(),
+            undo: Vec::new(),
+        }
+    }
+
+    /// The script that was written.
+    pub fn into_text(self) -> Vec<u8> {
+        self.written
+    }
+
+    /// Writes a line and runs it; the answer where it is a call.
+    pub fn say(&mut self, line: impl Into<String>) -> Option<Answer> {
+        let mut line = line.into().into_bytes();
+        line.push(b'\n');
+        self.written.extend(&line);
+        let done = self.script.line(&line);
+        // What the script prints is for those who run it.
+        self.script.printed.clear();
+        match done {
+            Ok(called) => called.map(|called| called.answer),
+            // A bad line stays in the text, where a run of it shows.
+            Err(_) => None,
+        }
+    }
+
+    /// Writes a list of words after some first words.
+    pub fn say_list(&mut self, first: &str, words: impl IntoIterator<Item = impl Display>) {
+        let mut line = first.to_string();
+        for word in words {
+            line += &format!(" {word}");
+        }
+        self.say(line);
+    }
+
+    /// Makes a call and looks at the slices it can write. The answer.
+    pub fn call(&mut self, call: Call) -> Answer {
+        let answer = self.call_unseen(call);
+        for name in written_by(call) {
+            self.look(name);
+        }
+        answer
+    }
+
+    /// Makes a call on a run.
+    pub fn call_unseen(&mut self, call: Call) -> Answer {
+        let answer = self.say(call.name());
+        answer.unwrap_or(Answer::accepted(0))
+    }
+
+    /// Prints a slice, or its digest where it is long.
+    pub fn look(&mut self, name: &str) {
+        let length = self.length(name);
+        let command = if length <= PRINTED { "print" } else { "digest" };
+        self.say(format!("{command} {name}"));
+    }
+
+    /// The length of a slice.
+    pub fn length(&mut self, name: &str) -> usize {
+        let slice = self.script.slice(name.as_bytes());
+        slice.map_or(0, |slice| slice.length())
+    }
+
+    /// N, "the length of the x slice".
+    pub fn nodes(&self) -> usize {
+        self.script.x.0.len()
+    }
+
+    /// E, "a third of the triangle list's length".
+    pub fn triangles(&self) -> usize {
+        self.script.tri.0.len() / 3
+    }
+
+    /// Any node.
+    pub fn any_node(&mut self) -> usize {
+        let nodes = self.nodes();
+        self.dice.below(nodes)
+    }
+
+    /// Sets the mesh, and rooms of its size that hold anything.
+    pub fn set_world(&mut self, world: &World) {
+        self.say_list("set x", world.points.iter().map(|point| point[0]));
+        self.say_list("set y", world.points.iter().map(|point| point[1]));
+        self.say_list("set tri", world.triangles.iter().flatten());
+        self.say_list("set h", world.h.iter().copied().map(word));
+        self.say_list("set kind", &world.kind);
+        self.rooms();
+    }
+
+    /// Rooms for a mesh: state, next state, work room and sums, each filled
+    /// with something that a call is seen to write over.
+    pub fn rooms(&mut self) {
+        self.fill_runs("state", 4);
+        self.work_rooms();
+    }
+
+    /// The rooms that a step is lent beside the state, filled anew: after an
+    /// accepted step they are "all zero", and a refusal that zeroes them would
+    /// not be seen.
+    pub fn work_rooms(&mut self) {
+        self.fill_runs("next", 4);
+        self.fill_runs("work", 3);
+        let filling = self.dice.bits();
+        self.say(format!("fill sums {} {filling}", self.nodes()));
+    }
+
+    fn fill_runs(&mut self, name: &str, runs: usize) {
+        let filling = word(anything(&mut self.dice));
+        self.say(format!("fill {name} {} {filling}", runs * self.nodes()));
+    }
+
+    pub fn set_parameters(&mut self, p: Parameters) {
+        self.say(parameters_line(p));
+    }
+
+    pub fn set_clock(&mut self, clock: Clock) {
+        self.say(clock_line(clock));
+    }
+
+    pub fn set_forcing(&mut self, forcing: Forcing) {
+        self.say(forcing_line(forcing));
+    }
+
+    /// Makes the text or the line these bytes, by as few words as there are
+    /// bytes that differ.
+    pub fn become_bytes(&mut self, name: &str, bytes: &[u8]) {
+        let held = match name {
+            "text" => self.script.text.0.clone(),
+            _ => self.script.line.0.clone(),
+        };
+        if held.len() == bytes.len() {
+            for (at, (&new, old)) in bytes.iter().zip(held).enumerate() {
+                if new != old {
+                    self.say(format!("put {name} {at} {}", byte_word(new)));
+                }
+            }
+            return;
+        }
+        let pairs = bytes.iter().zip(&held);
+        let same = pairs.take_while(|(new, old)| new == old).count();
+        if same < held.len() {
+            self.say(format!("keep {name} {same}"));
+        }
+        if same < bytes.len() {
+            let words = bytes[same..].iter().copied().map(byte_word);
+            self.say_list(&format!("add {name}"), words);
+        }
+    }
+
+    /// Makes a change that [`Pen::mend`] undoes.
+    pub fn change(&mut self, line: impl Into<String>, undo: String) {
+        self.undo.push(undo);
+        self.say(line);
+    }
+
+    /// Changes one element of a slice.
+    pub fn change_element(&mut self, name: &str, at: usize, new: impl Display, old: impl Display) {
+        let (line, undo) = (
+            format!("put {name} {at} {new}"),
+            format!("put {name} {at} {old}"),
+        );
+        self.change(line, undo);
+    }
+
+    /// Adds elements to the end of a slice.
+    pub fn lengthen(&mut self, name: &str, words: &str) {
+        let length = self.length(name);
+        self.change(
+            format!("add {name} {words}"),
+            format!("keep {name} {length}"),
+        );
+    }
+
+    /// Changes a slice as a whole.
+    pub fn change_slice(&mut self, name: &str, line: String) {
+        let undo = self.as_set(name);
+        self.change(line, undo);
+    }
+
+    /// Changes the parameters.
+    pub fn change_parameters(&mut self, p: Parameters) {
+        self.change(parameters_line(p), parameters_line(self.script.p));
+    }
+
+    /// Changes the clock.
+    pub fn change_clock(&mut self, clock: Clock) {
+        self.change(clock_line(clock), clock_line(self.script.clock));
+    }
+
+    /// Changes the forcing.
+    pub fn change_forcing(&mut self, forcing: Forcing) {
+        self.change(forcing_line(forcing), forcing_line(self.script.forcing));
+    }
+
+    /// Undoes every change, the latest first.
+    pub fn mend(&mut self) {
+        while let Some(line) = self.undo.pop() {
+            self.say(line);
+        }
+    }
+
+    /// The words of a slice's elements, one NaN for all.
+    pub fn words(&mut self, name: &str) -> Vec<String> {
+        let mut words = Vec::new();
+        if let Some(slice) = self.script.slice(name.as_bytes()) {
+            slice.each_word(&mut |word| words.push(String::from_utf8_lossy(word).into_owned()));
+        }
+        words
+    }
+
+    /// A `set` command that makes the slice what it now is.
+    fn as_set(&mut self, name: &str) -> String {
+        let mut words = self.words(name);
+        words.insert(0, format!("set {name}"));
+        words.join(" ")
+    }
+}
+
+fn parameters_line(p: Parameters) -> String {
+    let words = [p.dt, p.tau, p.k, p.f].map(word);
+    format!("parameters {}", words.join(" "))
+}
+
+fn clock_line(clock: Clock) -> String {
+    format!("clock {} {} {}", clock.step, word(clock.wx), word(clock.wy))
+}
+
+fn forcing_line(forcing: Forcing) -> String {
+    let words = [forcing.elevation, forcing.wx, forcing.wy].map(word);
+    format!("forcing {}", words.join(" "))
+}
+
+/// The word of a byte.
+pub(crate) fn byte_word(byte: u8) -> String {
+    two_digits(byte).map(char::from).iter().collect()
+}

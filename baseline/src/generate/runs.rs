@@ -1,0 +1,126 @@
+//! Long runs: open, steps, saves and loads.
+
+use super::lines::{forcing_frame, line_of};
+use super::pen::{byte_word, Pen};
+use super::settings::{any_manner, any_size, clock, forcing, parameters, save_length, start};
+use super::values::{anything, word};
+use super::worlds::{world, Manner};
+use crate::script::Call;
+
+/// How many steps a run of this size takes.
+fn any_steps(pen: &mut Pen, nodes: usize) -> usize {
+    let most = match nodes {
+        0..=8 if pen.dice.one_in(12) => 400,
+        0..=8 => 48,
+        9..=40 => 24,
+        41..=300 => 8,
+        _ => 3,
+    };
+    1 + pen.dice.below(most)
+}
+
+/// A run from its opening to its last save.
+pub(crate) fn run(pen: &mut Pen) {
+    let manner = any_manner(pen);
+    let nodes = any_size(pen);
+    start(pen, nodes, manner);
+    for _ in 0..any_steps(pen, nodes) {
+        if !step_on(pen, manner) {
+            break;
+        }
+        if pen.dice.one_in(12) {
+            save_and_load(pen);
+        }
+        if pen.dice.one_in(16) {
+            let p = parameters(pen, manner);
+            pen.set_parameters(p);
+        }
+    }
+    pen.call(Call::Step);
+    save_and_load(pen);
+}
+
+/// One step, and the move to the next state where it is accepted. Whether the
+/// run can go on.
+pub(crate) fn step_on(pen: &mut Pen, manner: Manner) -> bool {
+    force(pen, manner);
+    if pen.dice.one_in(6) {
+        pen.work_rooms();
+    }
+    let answer = if pen.dice.one_in(4) {
+        pen.call(Call::Step)
+    } else {
+        pen.call_unseen(Call::Step)
+    };
+    match answer.number {
+        0 => {
+            pen.say("swap");
+        }
+        11 => {
+            let clock = clock(pen);
+            pen.set_clock(clock);
+        }
+        _ => return false,
+    }
+    true
+}
+
+/// Sets a forcing, at times by a line that is read.
+fn force(pen: &mut Pen, manner: Manner) {
+    let forcing = forcing(pen, manner);
+    if !pen.dice.one_in(6) {
+        pen.set_forcing(forcing);
+        return;
+    }
+    let sequence = pen.dice.bits() as u16;
+    let numbers = [forcing.elevation, forcing.wx, forcing.wy];
+    pen.become_bytes("line", &line_of(&forcing_frame(sequence, numbers)));
+    pen.say(format!("read {sequence}"));
+}
+
+/// Room for a save, with some bytes more than it needs.
+pub(crate) fn make_room(pen: &mut Pen, more: usize) {
+    let filling = byte_word(pen.dice.bits() as u8);
+    let room = save_length(pen) + more;
+    pen.say(format!("fill text {room} {filling}"));
+}
+
+/// Saves, loads into this or another slice, and saves again: "loading it
+/// returns the same bits".
+pub(crate) fn save_and_load(pen: &mut Pen) {
+    let more = pen.dice.one_of(&[0, 1, 17, 73]);
+    make_room(pen, more);
+    let saved = pen.call(Call::Save);
+    pen.say(format!("keep text {}", saved.place));
+    match pen.dice.below(3) {
+        0 => {
+            let filling = word(anything(&mut pen.dice));
+            let length = pen.length("state");
+            pen.say(format!("fill state {length} {filling}"));
+        }
+        1 => {
+            pen.say("swap");
+        }
+        _ => (),
+    }
+    if pen.dice.one_in(2) {
+        let clock = clock(pen);
+        pen.set_clock(clock);
+    }
+    pen.call(Call::Load);
+    make_room(pen, 0);
+    pen.call(Call::Save);
+}
+
+/// The calls on a mesh as its shape gave it, whatever rows it breaks.
+pub(crate) fn raw(pen: &mut Pen) {
+    let nodes = any_size(pen);
+    let world = world(&mut pen.dice, nodes.min(300), Manner::Raw);
+    pen.set_world(&world);
+    let p = parameters(pen, Manner::Calm);
+    pen.set_parameters(p);
+    pen.say(format!("fill state {} {}", 4 * pen.nodes(), word(0.0)));
+    for call in [Call::Step, Call::Save, Call::Load, Call::Open] {
+        pen.call(call);
+    }
+}

@@ -1,0 +1,405 @@
+//! Scripts: "a text that lends slices of any lengths and contents, makes calls,
+//! and prints what they hand back". Comments in quotation marks are sentences
+//! of `docs/SCRIPT.md`.
+
+pub(crate) mod slices;
+
+use crate::{load, open, read_forcing, save, step};
+use crate::{Answer, Clock, Forcing, Parameters};
+use slices::{Byte, Decimal, Float, Form, Held, Slice, Words};
+use std::io::Write;
+use std::mem::swap;
+
+/// What a script printed.
+pub struct Printed {
+    /// The bytes for standard output.
+    pub text: Vec<u8>,
+    /// The line that ended the script before its end, from 1.
+    pub bad_line: Option<usize>,
+}
+
+/// The five calls.
+#[derive(Clone, Copy, Debug, PartialEq, Eq, PartialOrd, Ord)]
+pub(crate) enum Call {
+    Open,
+    Step,
+    Save,
+    Load,
+    Read,
+}
+
+impl Call {
+    /// Every call.
+    pub const ALL: [Call; 5] = [Call::Open, Call::Step, Call::Save, Call::Load, Call::Read];
+
+    /// The call that a command makes.
+    fn of(command: &[u8]) -> Option<Call> {
+        Call::ALL
+            .into_iter()
+            .find(|call| call.name().as_bytes() == command)
+    }
+
+    /// The command that makes the call, and the first word of what it prints.
+    pub fn name(self) -> &'static str {
+        match self {
+            Call::Open => "open",
+            Call::Step => "step",
+            Call::Save => "save",
+            Call::Load => "load",
+            Call::Read => "read",
+        }
+    }
+}
+
+/// A call that was made, and its answer.
+#[derive(Clone, Copy)]
+pub(crate) struct Called {
+    pub call: Call,
+    pub answer: Answer,
+    /// The sequence number that a `read` expected, else 0.
+    pub expected: u32,
+}
+
+/// "A line that is none of the commands below, or has a word that is not of its
+/// form".
+pub(crate) struct BadLine;
+
+/// "What a script holds", and what it has printed.
+pub(crate) struct Script {
+    pub x: Held<Decimal<i32>>,
+    pub y: Held<Decimal<i32>>,
+    pub tri: Held<Decimal<u16>>,
+    pub h: Held<Float>,
+    pub kind: Held<Decimal<u8>>,
+    pub state: Held<Float>,
+    pub next: Held<Float>,
+    pub work: Held<Float>,
+    pub sums: Held<Decimal<u64>>,
+    pub text: Held<Byte>,
+    pub line: Held<Byte>,
+    pub p: Parameters,
+    pub clock: Clock,
+    pub forcing: Forcing,
+    pub printed: Vec<u8>,
+}
+
+/// Runs a script from its first line to its end or its first bad line.
+pub fn run(script: &[u8]) -> Printed {
+    run_watched(script, |_, _| ())
+}
+
+/// Runs a script, and shows what it holds after each call.
+pub(crate) fn run_watched(text: &[u8], mut watch: impl FnMut(&Script, Called)) -> Printed {
+    let mut script = Script::new();
+    let mut bad_line = None;
+    for (at, line) in text.split_inclusive(|&byte| byte == b'\n').enumerate() {
+        match script.line(line) {
+            Ok(Some(called)) => watch(&script, called),
+            Ok(None) => (),
+            Err(BadLine) => {
+                // "`bad line N`, N from 1, is printed".
+                script.print(format_args!("bad line {}", at + 1));
+                bad_line = Some(at + 1);
+                break;
+            }
+        }
+    }
+    Printed {
+        text: script.printed,
+        bad_line,
+    }
+}
+
+impl Script {
+    /// Every slice "empty", "and the parameters, the clock and the forcing, all
+    /// zero at the start (every float +0)".
+    pub fn new() -> Script {
+        Script {
+            x: Held::empty(),
+            y: Held::empty(),
+            tri: Held::empty(),
+            h: Held::empty(),
+            kind: Held::empty(),
+            state: Held::empty(),
+            next: Held::empty(),
+            work: Held::empty(),
+            sums: Held::empty(),
+            text: Held::empty(),
+            line: Held::empty(),
+            p: Parameters {
+                dt: 0.0,
+                tau: 0.0,
+                k: 0.0,
+                f: 0.0,
+            },
+            clock: Clock::COLD,
+            forcing: Forcing::ZERO,
+            printed: Vec::new(),
+        }
+    }
+
+    /// Does what a line says: "One command a line", "ended by a line feed". "A
+    /// line that is empty or begins with `#` is passed over."
+    pub fn line(&mut self, line: &[u8]) -> Result<Option<Called>, BadLine> {
+        if line == b"\n" || line.starts_with(b"#") {
+            return Ok(None);
+        }
+        let command = line.strip_suffix(b"\n").ok_or(BadLine)?;
+        self.command(command).ok_or(BadLine)
+    }
+
+    /// `None` for a bad line, else the call where the command was one.
+    fn command(&mut self, line: &[u8]) -> Option<Option<Called>> {
+        let mut words = Words::of(line);
+        let command = words.next()?;
+        if let Some(call) = Call::of(command) {
+            return self.call(call, words).map(Some);
+        }
+        match command {
+            b"echo" => self.echo(line, words)?,
+            b"print" => self.print_slice(words)?,
+            b"digest" => self.print_digest(words)?,
+            setting => self.setting(setting, words)?,
+        }
+        Some(None)
+    }
+
+    /// "Setting".
+    fn setting(&mut self, command: &[u8], mut words: Words) -> Option<()> {
+        match command {
+            b"parameters" => self.p = read_parameters(&mut words)?,
+            b"clock" => self.clock = read_clock(&mut words)?,
+            b"forcing" => self.forcing = read_three(&mut words)?,
+            b"swap" => swap(&mut self.state, &mut self.next),
+            of_slice => {
+                let slice = self.slice(words.next()?)?;
+                return slice_setting(slice, of_slice, words);
+            }
+        }
+        words.end()
+    }
+
+    /// The slice of a name.
+    pub fn slice(&mut self, name: &[u8]) -> Option<&mut dyn Slice> {
+        Some(match name {
+            b"x" => &mut self.x,
+            b"y" => &mut self.y,
+            b"tri" => &mut self.tri,
+            b"h" => &mut self.h,
+            b"kind" => &mut self.kind,
+            b"state" => &mut self.state,
+            b"next" => &mut self.next,
+            b"work" => &mut self.work,
+            b"sums" => &mut self.sums,
+            b"text" => &mut self.text,
+            b"line" => &mut self.line,
+            _ => return None,
+        })
+    }
+
+    /// "Each call lends the slices of its name in the table, and prints one
+    /// line, or two." "EXPECTED is a 32-bit unsigned number".
+    fn call(&mut self, call: Call, mut words: Words) -> Option<Called> {
+        let expected = match call {
+            Call::Read => words.read::<Decimal<u32>>()?,
+            _ => 0,
+        };
+        words.end()?;
+        let answer = match call {
+            Call::Open => {
+                let (answer, clock) = self.open();
+                self.hand_back_clock(call, answer, clock)
+            }
+            Call::Step => {
+                let (answer, clock) = self.step();
+                self.hand_back_clock(call, answer, clock)
+            }
+            Call::Load => {
+                let (answer, clock) = self.load();
+                self.hand_back_clock(call, answer, clock)
+            }
+            Call::Save => {
+                let answer = self.save();
+                self.print_answer(call, answer)
+            }
+            Call::Read => {
+                let (answer, forcing) = read_forcing(&self.line.0, expected);
+                self.hand_back_forcing(answer, forcing)
+            }
+        };
+        Some(Called {
+            call,
+            answer,
+            expected,
+        })
+    }
+
+    /// "the clock handed back is the script's clock from then on".
+    fn hand_back_clock(&mut self, call: Call, answer: Answer, clock: Clock) -> Answer {
+        self.clock = clock;
+        self.print_answer(call, answer);
+        let [wx, wy] = [clock.wx, clock.wy].map(word);
+        self.print(format_args!("clock {} {wx} {wy}", clock.step));
+        answer
+    }
+
+    /// "the forcing handed back is the script's forcing from then on".
+    fn hand_back_forcing(&mut self, answer: Answer, forcing: Forcing) -> Answer {
+        self.forcing = forcing;
+        self.print_answer(Call::Read, answer);
+        let [elevation, wx, wy] = [forcing.elevation, forcing.wx, forcing.wy].map(word);
+        self.print(format_args!("forcing {elevation} {wx} {wy}"));
+        answer
+    }
+
+    fn open(&mut self) -> (Answer, Clock) {
+        let (x, y, tri) = (&self.x.0, &self.y.0, &self.tri.0);
+        let (h, kind) = (&self.h.0, &self.kind.0);
+        open(&mut self.state.0, x, y, tri, h, kind, self.p)
+    }
+
+    fn step(&mut self) -> (Answer, Clock) {
+        let (next, work, sums) = (&mut self.next.0, &mut self.work.0, &mut self.sums.0);
+        let (x, y, tri) = (&self.x.0, &self.y.0, &self.tri.0);
+        let (state, h, kind) = (&self.state.0, &self.h.0, &self.kind.0);
+        let (p, clock, forcing) = (self.p, self.clock, self.forcing);
+        step(
+            next, work, sums, state, x, y, tri, h, kind, p, clock, forcing,
+        )
+    }
+
+    fn save(&mut self) -> Answer {
+        let (x, y, tri) = (&self.x.0, &self.y.0, &self.tri.0);
+        let (state, h, kind) = (&self.state.0, &self.h.0, &self.kind.0);
+        let text = &mut self.text.0;
+        save(text, state, x, y, tri, h, kind, self.p, self.clock)
+    }
+
+    fn load(&mut self) -> (Answer, Clock) {
+        let (x, y, tri) = (&self.x.0, &self.y.0, &self.tri.0);
+        let (text, h, kind) = (&self.text.0, &self.h.0, &self.kind.0);
+        let state = &mut self.state.0;
+        load(state, text, x, y, tri, h, kind, self.p, self.clock)
+    }
+
+    /// Prints `NAME NUMBER PLACE VALUE`.
+    fn print_answer(&mut self, call: Call, answer: Answer) -> Answer {
+        let value = word(answer.value);
+        let (name, number, place) = (call.name(), answer.number, answer.place);
+        self.print(format_args!("{name} {number} {place} {value}"));
+        answer
+    }
+
+    /// "the slice as a `set` command that would make it".
+    fn print_slice(&mut self, mut words: Words) -> Option<()> {
+        let name = words.next()?;
+        words.end()?;
+        let mut line = [b"set ", name].concat();
+        self.slice(name)?.each_word(&mut |word| {
+            line.push(b' ');
+            line.extend(word);
+        });
+        line.push(b'\n');
+        self.printed.extend(line);
+        Some(())
+    }
+
+    /// "D is 16 hexadecimal digits, the 64-bit FNV-1a hash of the elements'
+    /// words as `print` writes them, each followed by a line feed".
+    fn print_digest(&mut self, mut words: Words) -> Option<()> {
+        let name = words.next()?;
+        words.end()?;
+        let slice = self.slice(name)?;
+        let mut hash = Fnv1a::new();
+        slice.each_word(&mut |word| {
+            hash.add(word);
+            hash.add(b"\n");
+        });
+        let (count, Fnv1a(digest)) = (slice.length(), hash);
+        let name = String::from_utf8_lossy(name);
+        self.print(format_args!("digest {name} {count} {digest:016X}"));
+        Some(())
+    }
+
+    /// Prints the line itself, whose words may be of any bytes.
+    fn echo(&mut self, line: &[u8], mut words: Words) -> Option<()> {
+        if words.any(<[u8]>::is_empty) {
+            return None;
+        }
+        self.printed.extend(line);
+        self.printed.push(b'\n');
+        Some(())
+    }
+
+    fn print(&mut self, line: std::fmt::Arguments) {
+        // Writing to a vector does not fail.
+        let _ = writeln!(self.printed, "{line}");
+    }
+}
+
+/// A setting of one slice, by the words after its name.
+fn slice_setting(slice: &mut dyn Slice, command: &[u8], mut words: Words) -> Option<()> {
+    match command {
+        b"set" => {
+            slice.keep(0);
+            return slice.add(words);
+        }
+        b"add" => return slice.add(words),
+        b"fill" => slice.fill(words.place()?, words.next()?)?,
+        b"put" => slice.put(words.place()?, words.next()?)?,
+        b"keep" => slice.keep(words.place()?),
+        _ => return None,
+    }
+    words.end()
+}
+
+/// The word of a float.
+fn word(value: f64) -> String {
+    let mut word = Vec::new();
+    Float::write(value, &mut word);
+    String::from_utf8_lossy(&word).into_owned()
+}
+
+/// `parameters DT TAU K F`.
+fn read_parameters(words: &mut Words) -> Option<Parameters> {
+    Some(Parameters {
+        dt: words.read::<Float>()?,
+        tau: words.read::<Float>()?,
+        k: words.read::<Float>()?,
+        f: words.read::<Float>()?,
+    })
+}
+
+/// `clock STEP WX WY`: "a 32-bit unsigned number and two floats".
+fn read_clock(words: &mut Words) -> Option<Clock> {
+    Some(Clock {
+        step: words.read::<Decimal<u32>>()?,
+        wx: words.read::<Float>()?,
+        wy: words.read::<Float>()?,
+    })
+}
+
+/// `forcing ELEVATION WX WY`.
+fn read_three(words: &mut Words) -> Option<Forcing> {
+    Some(Forcing {
+        elevation: words.read::<Float>()?,
+        wx: words.read::<Float>()?,
+        wy: words.read::<Float>()?,
+    })
+}
+
+/// The 64-bit FNV-1a hash: each byte is joined by exclusive or before the
+/// product with the prime.
+struct Fnv1a(u64);
+
+impl Fnv1a {
+    fn new() -> Fnv1a {
+        Fnv1a(0xCBF2_9CE4_8422_2325)
+    }
+
+    fn add(&mut self, bytes: &[u8]) {
+        for &byte in bytes {
+            self.0 = (self.0 ^ u64::from(byte)).wrapping_mul(0x0000_0100_0000_01B3);
+        }
+    }
+}

@@ -1,0 +1,135 @@
+//! The generator: the same text for the same seed, scripts without a bad line,
+//! and the parts it is made of.
+
+use crate::generate::dice::Dice;
+use crate::generate::generate;
+use crate::generate::values::{lowest_elevation, COLUMN};
+use crate::generate::worlds::{full_grid, world, Manner, World};
+use crate::script::run;
+use crate::{coverage, open, printing::P};
+
+#[test]
+fn splitmix64_draws_its_known_numbers() {
+    let mut dice = Dice(0);
+    let known = [
+        0xE220_A839_7B1D_CDAF,
+        0x6E78_9E6A_A1B9_65F4,
+        0x06C4_5D18_8009_454F,
+    ];
+    assert_eq!([(); 3].map(|()| dice.bits()), known);
+}
+
+#[test]
+fn draws_stay_in_their_range() {
+    let mut dice = Dice::of(1, 2);
+    for _ in 0..1_000 {
+        assert!(dice.below(7) < 7);
+        assert!((-3..=3).contains(&dice.between(-3, 3)));
+    }
+    assert_eq!(dice.below(0), 0);
+    assert_eq!(dice.between(5, 5), 5);
+}
+
+#[test]
+fn same_seed_same_text() {
+    for index in 0..20 {
+        assert_eq!(generate(7, index), generate(7, index));
+    }
+    assert_ne!(generate(7, 0), generate(7, 1));
+    assert_ne!(generate(7, 0), generate(8, 0));
+}
+
+/// "the same on every machine": a digest of the first scripts of seed 1, which
+/// changes only where the generator is changed.
+#[test]
+fn the_scripts_of_seed_1_are_these() {
+    let mut hash = 0xCBF2_9CE4_8422_2325_u64;
+    for index in 0..100 {
+        for byte in generate(1, index) {
+            hash = (hash ^ u64::from(byte)).wrapping_mul(0x0000_0100_0000_01B3);
+        }
+    }
+    assert_eq!(format!("{hash:016X}"), "E14439BE3FD8591C");
+}
+
+#[test]
+fn the_first_200_scripts_have_no_bad_line() {
+    for index in 0..200 {
+        let printed = run(&generate(1, index));
+        assert_eq!(printed.bad_line, None, "script {index}");
+        assert!(!printed.text.is_empty(), "script {index}");
+    }
+}
+
+#[test]
+fn the_lowest_elevation_is_one_bit_from_too_little_water() {
+    for h in [
+        1.0,
+        1.0_f64.next_up(),
+        1.5,
+        8.0,
+        29.9,
+        30.0,
+        30.05,
+        12_000.0,
+    ] {
+        let z = lowest_elevation(h);
+        assert!(h + z >= COLUMN && h + z.next_down() < COLUMN, "{h} {z}");
+    }
+}
+
+/// The answer of opening a mesh.
+fn opened(world: &World) -> u32 {
+    let axis = |axis: usize| -> Vec<i32> {
+        let of = |point: &[i64; 2]| i32::try_from(point[axis]).unwrap();
+        world.points.iter().map(of).collect()
+    };
+    let node = |&node: &usize| u16::try_from(node).unwrap();
+    let tri: Vec<u16> = world.triangles.iter().flatten().map(node).collect();
+    let mut state = vec![1.0; 4 * world.points.len()];
+    let (x, y) = (axis(0), axis(1));
+    let (answer, _) = open(&mut state, &x, &y, &tri, &world.h, &world.kind, P);
+    answer.number
+}
+
+#[test]
+fn meshes_that_are_not_raw_can_be_opened() {
+    for index in 0..300 {
+        let mut dice = Dice::of(3, index);
+        for manner in [Manner::Calm, Manner::Bold, Manner::Wild] {
+            let nodes = dice.between(3, 60) as usize;
+            assert_eq!(opened(&world(&mut dice, nodes, manner)), 0, "mesh {index}");
+        }
+    }
+}
+
+#[test]
+fn raw_meshes_are_refused_by_rows_4_to_7_and_no_other() {
+    let numbers: Vec<u32> = (0..300)
+        .map(|index| opened(&world(&mut Dice::of(4, index), 12, Manner::Raw)))
+        .collect();
+    assert!(numbers
+        .iter()
+        .all(|number| [0, 4, 5, 6, 7].contains(number)));
+    assert!([0, 5].iter().all(|number| numbers.contains(number)));
+}
+
+#[test]
+fn a_full_mesh_has_the_most_of_everything() {
+    let mut dice = Dice::of(5, 0);
+    let mut world = full_grid(&mut dice);
+    world.crowd(&mut dice, 8_192);
+    assert_eq!((world.points.len(), world.triangles.len()), (4_096, 8_192));
+    assert_eq!(opened(&world), 0);
+    world.crowd(&mut dice, 8_193);
+    assert_eq!(opened(&world), 2);
+}
+
+#[test]
+fn coverage_tells_what_was_reached_and_what_was_missed() {
+    let (text, whole) = coverage(1, 0, 20);
+    assert!(text.starts_with("scripts 20, with a bad line 0, calls "));
+    assert!(text.contains("\nnumber   open   step   save   load   read\n"));
+    assert!(text.contains("\nmissed: "));
+    assert!(!whole);
+}

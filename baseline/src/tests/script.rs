@@ -1,0 +1,412 @@
+//! The reader of scripts: every command, and every kind of bad line.
+
+use crate::script::run;
+
+/// What a script prints that has no bad line.
+fn prints(script: &str) -> String {
+    let printed = run(script.as_bytes());
+    assert_eq!(printed.bad_line, None, "{script}");
+    String::from_utf8(printed.text).unwrap()
+}
+
+fn printed_as(script: &str, expected: &str) {
+    assert_eq!(prints(script), expected, "{script}");
+}
+
+/// Expects this line to end a script of two lines that stands before it.
+fn bad(line: &str) {
+    let script = format!("set x 1\n\n{line}\necho not reached\n");
+    let printed = run(script.as_bytes());
+    assert_eq!(printed.bad_line, Some(3), "{line:?}");
+    assert_eq!(printed.text, b"bad line 3\n", "{line:?}");
+}
+
+const ZERO: &str = "0000000000000000";
+const ONE: &str = "3FF0000000000000";
+
+/// Mesh T with rooms, 1/64 of wind to come.
+const MESH_T: &str = "set x 0 100 0
+set y 0 0 100
+set tri 0 1 2
+fill h 3 4020000000000000
+fill kind 3 0
+fill state 12 3FF0000000000000
+fill next 12 3FF0000000000000
+fill work 9 3FF0000000000000
+fill sums 3 7
+parameters 3FF0000000000000 0000000000000000 0000000000000000 0000000000000000
+forcing 0000000000000000 3F90000000000000 0000000000000000
+";
+
+#[test]
+fn nothing_prints_nothing() {
+    printed_as("", "");
+    printed_as("\n# any words, of  any form\n#\n\n", "");
+}
+
+#[test]
+fn every_slice_is_empty_at_the_start() {
+    for name in [
+        "x", "y", "tri", "h", "kind", "state", "next", "work", "sums", "text", "line",
+    ] {
+        printed_as(&format!("print {name}\n"), &format!("set {name}\n"));
+    }
+}
+
+#[test]
+fn elements_at_the_ends_of_their_forms() {
+    for line in [
+        "set x -2147483648 -1 0 2147483647",
+        "set y 7 -2147483648",
+        "set tri 0 65535",
+        "set kind 0 3 255",
+        "set sums 0 18446744073709551615",
+        "set h 0000000000000000 8000000000000000 0000000000000001 FFEFFFFFFFFFFFFF",
+        "set state 7FF0000000000000 FFF0000000000000",
+        "set text 00 0A 7F FF",
+        "set line 30 0D",
+    ] {
+        let name = line.split(' ').nth(1).unwrap();
+        printed_as(&format!("{line}\nprint {name}\n"), &format!("{line}\n"));
+    }
+}
+
+#[test]
+fn every_nan_is_printed_as_one() {
+    for pattern in ["7FF0000000000001", "FFFFFFFFFFFFFFFF", "7FF8DEADBEEF0001"] {
+        let script = format!("set work {pattern} {ONE}\nprint work\n");
+        printed_as(&script, &format!("set work 7FF8000000000000 {ONE}\n"));
+        let script = format!("clock 4 {pattern} {ONE}\nstep\n");
+        let expected = format!("step 2 0 {ZERO}\nclock 4 7FF8000000000000 {ONE}\n");
+        printed_as(&script, &expected);
+    }
+}
+
+#[test]
+fn set_replaces_and_set_alone_empties() {
+    printed_as("set x 1 2\nset x 3\nprint x\n", "set x 3\n");
+    printed_as("set x 1 2\nset x\nprint x\n", "set x\n");
+}
+
+#[test]
+fn fill_and_its_counts() {
+    printed_as("set x 9\nfill x 3 -4\nprint x\n", "set x -4 -4 -4\n");
+    printed_as(
+        "set text 00\nfill text 2 AB\nprint text\n",
+        "set text AB AB\n",
+    );
+    printed_as("set x 9\nfill x 0 1\nprint x\n", "set x\n");
+}
+
+#[test]
+fn put_where_there_is_an_element() {
+    printed_as("set x 1 2 3\nput x 1 -9\nprint x\n", "set x 1 -9 3\n");
+    for at in [
+        "3",
+        "18446744073709551616",
+        "99999999999999999999999999999999999999999999",
+    ] {
+        let script = format!("set x 1 2 3\nput x {at} 9\nprint x\n");
+        printed_as(&script, "set x 1 2 3\n");
+    }
+    printed_as("put x 0 9\nprint x\n", "set x\n");
+}
+
+#[test]
+fn keep_the_first_elements() {
+    printed_as("set x 1 2 3\nkeep x 2\nprint x\n", "set x 1 2\n");
+    printed_as("set x 1 2 3\nkeep x 0\nprint x\n", "set x\n");
+    for count in ["3", "4", "99999999999999999999999999999999999999999999"] {
+        let script = format!("set x 1 2 3\nkeep x {count}\nprint x\n");
+        printed_as(&script, "set x 1 2 3\n");
+    }
+}
+
+#[test]
+fn add_to_the_end() {
+    printed_as("add x 1\nadd x\nadd x 2 3\nprint x\n", "set x 1 2 3\n");
+}
+
+#[test]
+fn swap_changes_state_and_next() {
+    let script = format!("set state {ONE}\nset next\nswap\nprint state\nprint next\n");
+    printed_as(&script, &format!("set state\nset next {ONE}\n"));
+}
+
+#[test]
+fn digests_are_fnv_1a() {
+    printed_as("digest x\n", "digest x 0 CBF29CE484222325\n");
+    printed_as("set x 1 -2\ndigest x\n", "digest x 2 D346F6D5AA9F2015\n");
+    printed_as(
+        "set text 0A FF\ndigest text\n",
+        "digest text 2 4B42D0EE19AF7302\n",
+    );
+    let script = "set h FFF0000000000001\ndigest h\n";
+    printed_as(script, "digest h 1 111B06EBA583AAAC\n");
+}
+
+#[test]
+fn echo_prints_its_words() {
+    printed_as(
+        "echo\necho a\necho set x 1\n",
+        "echo\necho a\necho set x 1\n",
+    );
+    let printed = run(b"echo \xFF\xFE \r\n");
+    assert_eq!(
+        (printed.text, printed.bad_line),
+        (b"echo \xFF\xFE \r\n".to_vec(), None)
+    );
+}
+
+#[test]
+fn the_calls_on_nothing() {
+    let zeros = format!("clock 0 {ZERO} {ZERO}");
+    printed_as("open\n", &format!("open 2 0 {ZERO}\n{zeros}\n"));
+    printed_as("step\n", &format!("step 2 0 {ZERO}\n{zeros}\n"));
+    printed_as("save\n", &format!("save 2 0 {ZERO}\n"));
+    printed_as("load\n", &format!("load 2 0 {ZERO}\n{zeros}\n"));
+    let expected = format!("read 20 0 {ZERO}\nforcing {ZERO} {ZERO} {ZERO}\n");
+    printed_as("read 0\n", &expected);
+    printed_as("read 4294967295\n", &expected);
+}
+
+#[test]
+fn a_refused_step_hands_back_the_clock_and_open_the_cold_one() {
+    let clock = format!("clock 4294967295 {ONE} BFF0000000000000\n");
+    let script = format!("{clock}step\nload\nopen\nstep\n");
+    let cold = format!("clock 0 {ZERO} {ZERO}\n");
+    let expected = format!(
+        "step 2 0 {ZERO}\n{clock}load 2 0 {ZERO}\n{clock}open 2 0 {ZERO}\n{cold}step 2 0 {ZERO}\n{cold}"
+    );
+    printed_as(&script, &expected);
+}
+
+/// Example 13's first step, the save after it, and the way back.
+#[test]
+fn a_run_on_mesh_t() {
+    let script = format!("{MESH_T}open\nprint state\nstep\nprint next\nprint work\nprint sums\n");
+    let zeros = |count: usize| [ZERO].repeat(count).join(" ");
+    let wind = "3F90000000000000";
+    let u = ["3F50000000000000"; 3].join(" ");
+    let expected = format!(
+        "open 0 0 {ZERO}\nclock 0 {ZERO} {ZERO}\nset state {}\nstep 0 0 {ZERO}\nclock 1 {wind} {ZERO}\n\
+         set next {} {u} {}\nset work {}\nset sums 0 0 0\n",
+        zeros(12),
+        zeros(6),
+        zeros(3),
+        zeros(9),
+    );
+    printed_as(&script, &expected);
+    let on = format!(
+        "{script}swap\nfill text 290 2A\nsave\nkeep text 289\nswap\nclock 9 {ONE} {ONE}\nload\n"
+    );
+    let expected = format!("{expected}save 0 289 {ZERO}\nload 0 0 {ZERO}\nclock 1 {wind} {ZERO}\n");
+    printed_as(&on, &expected);
+    let same = format!("{on}digest state\ndigest next\n");
+    let printed = prints(&same);
+    let digests: Vec<_> = printed.lines().rev().take(2).collect();
+    assert_eq!(
+        digests[1].replace("state", ""),
+        digests[0].replace("next", "")
+    );
+}
+
+#[test]
+fn a_step_leaves_the_state_and_the_next_call_the_clock() {
+    let script = format!("{MESH_T}open\nstep\nprint state\nstep\n");
+    let printed = prints(&script);
+    assert!(printed.contains(&format!("set state {}\n", [ZERO; 12].join(" "))));
+    assert!(printed.ends_with(&format!("clock 2 3F90000000000000 {ZERO}\n")));
+}
+
+#[test]
+fn row_13_prints_its_value() {
+    let script =
+        format!("{MESH_T}put kind 1 1\nforcing C01F99999999999A {ZERO} {ZERO}\nopen\nstep\n");
+    let printed = prints(&script);
+    let answer = printed.lines().nth(2).unwrap();
+    let column = f64::from_bits(0xC01F_9999_9999_999A) + 8.0;
+    assert_eq!(answer, format!("step 13 1 {:016X}", column.to_bits()));
+}
+
+#[test]
+fn a_line_that_is_read_is_the_forcing_from_then_on() {
+    let frame = "100007".to_string() + ZERO + "3F90000000000000" + ZERO;
+    let digits = frame + "1A\n";
+    let bytes: Vec<String> = digits.bytes().map(|byte| format!("{byte:02X}")).collect();
+    let line = format!("set line {}\n", bytes.join(" "));
+    let forcing = format!("forcing {ZERO} 3F90000000000000 {ZERO}\n");
+    printed_as(
+        &format!("{line}read 7\nprint line\n"),
+        &format!("read 0 0 {ZERO}\n{forcing}{line}"),
+    );
+    let without = MESH_T.replace(&forcing, "");
+    let printed = prints(&format!("{without}{line}read 7\nopen\nstep\n"));
+    assert!(printed.ends_with(&format!("clock 1 3F90000000000000 {ZERO}\n")));
+    let refused = format!("read 22 0 {ZERO}\nforcing {ZERO} {ZERO} {ZERO}\n");
+    printed_as(&format!("{forcing}{line}read 8\n"), &refused);
+    printed_as(&format!("{forcing}{line}read 65543\n"), &refused);
+}
+
+#[test]
+fn what_was_printed_before_a_bad_line_stays() {
+    let printed = run(b"echo a\n# b\nfrob\necho c\n");
+    assert_eq!(printed.text, b"echo a\nbad line 3\n");
+}
+
+#[test]
+fn lines_that_are_no_command() {
+    for line in [
+        " ",
+        "frob",
+        "SET x 1",
+        "Open",
+        " open",
+        "open ",
+        "open 1",
+        "step 0",
+        "save text",
+        "load text",
+        "swap 1",
+        "swap ",
+        "set",
+        "fill",
+        "put",
+        "keep",
+        "add",
+        "print",
+        "digest",
+        "print z",
+        "print x y",
+        "print x ",
+        "digest z",
+        "digest x 1",
+        "set z 1",
+        "set X 1",
+        "echo  a",
+        "echo ",
+        "echo a ",
+        "\t",
+        " # no comment",
+        "open\r",
+        "clock",
+        "read",
+    ] {
+        bad(line);
+    }
+}
+
+#[test]
+fn whole_numbers_that_are_none() {
+    for word in [
+        "",
+        "-",
+        "+1",
+        "--1",
+        "1.0",
+        "0x1",
+        "1e3",
+        "A",
+        "-0",
+        "1-",
+        "\u{661}",
+        "2147483648",
+        "-2147483649",
+        "99999999999999999999999999999999999999999999",
+        "1,000",
+    ] {
+        bad(&format!("set x {word}"));
+        bad(&format!("add x 1 {word}"));
+        bad(&format!("fill x 1 {word}"));
+        bad(&format!("put x 0 {word}"));
+    }
+    bad("set x 1  2");
+    bad("set x 1 2 ");
+    bad("set tri 65536");
+    bad("set tri -1");
+    bad("set kind 256");
+    bad("set sums -1");
+    bad("set sums 18446744073709551616");
+}
+
+#[test]
+fn counts_and_places_that_are_none() {
+    for command in [
+        "fill x - 1",
+        "fill x -1 1",
+        "fill x 1",
+        "fill x 1 1 1",
+        "fill x A 1",
+    ] {
+        bad(command);
+    }
+    for command in ["put x -1 1", "put x 0", "put x 0 1 2", "put x", "put x  1"] {
+        bad(command);
+    }
+    for command in ["keep x", "keep x -1", "keep x 1 1", "keep x one", "keep x "] {
+        bad(command);
+    }
+    bad("fill x 99999999999999999999999999999999999999999999 1");
+}
+
+#[test]
+fn floats_and_bytes_that_are_none() {
+    for word in [
+        "",
+        "0",
+        "1.0",
+        "3ff0000000000000",
+        "3FF000000000000",
+        "3FF00000000000000",
+        "3FF000000000000G",
+        "-3FF000000000000",
+        "NaN",
+        "3FF000000000000\u{663}",
+    ] {
+        bad(&format!("set h {word}"));
+        bad(&format!("fill work 2 {word}"));
+        bad(&format!("put next 5 {word}"));
+        bad(&format!("forcing {ZERO} {word} {ZERO}"));
+        bad(&format!("clock 0 {ZERO} {word}"));
+        bad(&format!("parameters {ZERO} {ZERO} {ZERO} {word}"));
+    }
+    for word in ["", "0", "a0", "0g", "000", "G0", "-1", "255"] {
+        bad(&format!("set text {word}"));
+        bad(&format!("put line 0 {word}"));
+    }
+}
+
+#[test]
+fn too_few_and_too_many_words() {
+    for (name, count) in [("parameters", 4), ("forcing", 3), ("clock 1", 2)] {
+        for words in [count - 1, count + 1] {
+            bad(&format!("{name} {}", [ZERO].repeat(words).join(" ")));
+        }
+    }
+    for step in ["-1", "4294967296", ZERO, "x", ""] {
+        if step != ZERO {
+            bad(&format!("clock {step} {ZERO} {ZERO}"));
+            bad(&format!("read {step}"));
+        }
+    }
+    bad("read 1 2");
+}
+
+#[test]
+fn a_last_line_without_a_line_feed_is_no_line() {
+    let printed = run(b"set x 1\nprint x");
+    assert_eq!(
+        (printed.text, printed.bad_line),
+        (b"bad line 2\n".to_vec(), Some(2))
+    );
+    printed_as("set x 1\n# no command", "");
+}
+
+#[test]
+fn a_long_line() {
+    let words = vec!["-2147483648"; 100_000].join(" ");
+    printed_as(
+        &format!("set y {words}\nprint y\n"),
+        &format!("set y {words}\n"),
+    );
+}
