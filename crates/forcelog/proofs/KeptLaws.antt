@@ -16,14 +16,14 @@ use Rattle.lists.proofs.ScanLaws.{row-holds, same-number, goes}
 use Rattle.surge.specs.Geometry.{sides, allNear}
 use Rattle.surge.specs.Rows.{row1, row2, allBelow, row3, row4, row5, rows3to5, isLeg, row6, row6If, isNamed, row7, row8, row9, rows1to9}
 use Rattle.surge.specs.State.{inBounds, row10, rows1to10, row11, row12Held}
-use Rattle.surge.specs.Step.{Given, given, Rooms, StepOut, seaOf, advance, before13, row13, roomy, wentOn, stepsTo, stepOf}
+use Rattle.surge.specs.Step.{Given, given, Rooms, seaOf, advance, before13, row13, roomy, wentOn, stepsTo, stepOf}
 use Rattle.surge.specs.Lent.{N}
 use Rattle.saves.specs.Forcings.{takenOf}
 use Rattle.saves.specs.Save.{row24, saveAnswer, saveOut, wrote, saveOf}
 use Rattle.forcelog.specs.declared.Log.{Log}
 use Rattle.forcelog.specs.declared.Took.{Took}
 use Rattle.forcelog.specs.MeshT.{T, T-parameters}
-use Rattle.forcelog.specs.Log.{coldLog, rooms, stepped, gone, takeOf, endOf}
+use Rattle.forcelog.specs.Log.{coldLog, rooms, stepped, takeOf, endOf}
 use Rattle.forcelog.specs.Printed.{ending}
 use Rattle.forcelog.specs.Kept.{Kept}
 use Rattle.forcelog.proofs.LogLaws.{step-accepted, took-step, counted}

@@ -10,18 +10,17 @@ use lib.ListN.{length, getD}
 use lib.Ieee.{Float, nan, le}
 use Rattle.lists.specs.declared.rows.Answer.{Answer}
 use Rattle.lists.specs.Table.{table}
-use Rattle.lists.specs.Runs.{isRuns, room, Even}
-use Rattle.lists.specs.Scan.{accepted, scan}
+use Rattle.lists.specs.Runs.{isRuns, Even}
+use Rattle.lists.specs.Scan.{accepted}
 use Rattle.lists.proofs.TableLaws.{length-table, getD-table}
 use Rattle.lists.proofs.RunLaws.{room-length, room-read}
 use Rattle.lists.proofs.ScanLaws.{row-holds, row-passed, then-first, then-rest, scan-none, scan-clean, same-number, goes, both-left, both-right}
 use Rattle.equations.specs.declared.Node.{Node}
-use Rattle.equations.specs.declared.Flow.{Flow}
 use Rattle.equations.specs.declared.Outcome.the-variants.{Accepted, Elevation, Column, East, North}
 use Rattle.equations.specs.Operations.{_⊕_}
 use Rattle.equations.specs.Constants.{tenth}
 use Rattle.equations.specs.Outcomes.{inSize, level, speed, east, north, answerOf}
-use Rattle.surge.specs.Lent.{Mesh, N}
+use Rattle.surge.specs.Lent.{N}
 use Rattle.surge.specs.Rows.{rows1to9}
 use Rattle.surge.specs.State.{nodeOf, inBounds, row10, rows1to10, calm, row12Held, row12, advanced}
 use Rattle.surge.specs.Equations.{count, node, rise, flowAt, U′, V′, nextState}
