@@ -22,7 +22,7 @@ use Rattle.saves.proofs.KeptLaws.{save-fine}
 use Rattle.forcelog.specs.declared.Log.{Log}
 use Rattle.forcelog.specs.declared.Took.{Took}
 use Rattle.forcelog.specs.MeshT.{T, T-parameters}
-use Rattle.forcelog.specs.Log.{coldLog, rooms, stepped, gone, takeOf, endOf}
+use Rattle.forcelog.specs.Log.{coldLog, rooms, stepped, takeOf, endOf}
 use Rattle.forcelog.specs.Printed.{ending}
 use Rattle.forcelog.specs.Kept.{Kept}
 use Rattle.forcelog.proofs.LogLaws.{step-accepted, took-step, counted}

@@ -1,15 +1,13 @@
 -- The outcomes of taking a line: not read, read and refused by the step, and stepped. And how many lines can be taken.
 use Prim.Native.Nat.{ℕ, _+_, _<_}
 use mathlib.Core.Path.{_≡_, refl, sym, ap, _∙_}
-use mathlib.Core.Bool.{Bool, true, false, cond}
+use mathlib.Core.Bool.{Bool, true, false}
 use mathlib.Core.List.{List}
 use borrow.Author.Tests.{eqb-true, eqb-false, eq-eqb, ne-eqb}
 use lib.Dec.{eqb}
-use Rattle.lists.specs.declared.rows.Answer.{Answer}
 use Rattle.lists.proofs.ScanLaws.{row-passed, then-rest, both-right}
 use Rattle.frames.specs.Reading.{value, row22, fault}
 use Rattle.frames.proofs.BackLaws.{value-small}
-use Rattle.surge.specs.declared.Forcing.{Forcing}
 use Rattle.surge.specs.Step.{StepOut}
 use Rattle.saves.specs.declared.Taken.{Taken}
 use Rattle.saves.specs.Forcings.{takenOf}

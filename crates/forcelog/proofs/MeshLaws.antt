@@ -1,6 +1,6 @@
 -- Mesh T meets the rows of the refusal table, by computation.
 use mathlib.Core.Path.{_≡_, refl}
-use lib.Ieee.{round, le, lt, eq, ofBits}
+use lib.Ieee.{round, le, lt, eq}
 use Rattle.lists.specs.Table.{table, zeros}
 use Rattle.lists.specs.Scan.{accepted, row, _then_, scan, some, within, decimal, minus}
 use Rattle.limits.specs.Limits.{isSound, row9}

@@ -1,7 +1,7 @@
 -- Laws of the text of a refusal: numbers in decimal, and a room that is written part by part.
 use Prim.Native.Nat.{ℕ, zero, suc, _+_, _-_, _*_, _/_, _%_, _^_, _<_, _≤_}
 use mathlib.Core.Path.{_≡_, refl, sym, ap, _∙_}
-use mathlib.Core.List.{List, [], _∷_, _++_, append-assoc}
+use mathlib.Core.List.{List, [], _∷_, _++_}
 use mathlib.Core.Bool.{Bool, true, false, cond}
 use native.Mathlib.Nat.{pow-suc, one-le-pow, pow-le-pow-right}
 use native.Mathlib.Omega.{arith}
@@ -10,11 +10,10 @@ use lib.Dec.{lit<, leb, ltb}
 use lib.ListN.{length, take, drop, replicate, length-append}
 use Rattle.io.specs.Digits.{digits, Fewest}
 use Rattle.lists.specs.declared.rows.Answer.{Answer}
-use Rattle.frames.specs.Frames.{lineFeed}
 use Rattle.frames.specs.Building.{laid}
 use Rattle.frames.proofs.LaidLaws.{laid-next}
 use Rattle.forcelog.specs.declared.Words.{Words}
-use Rattle.forcelog.specs.Printed.{decimalOf, decimal, refusedWord, atWord, refusal, roomOfWords, words}
+use Rattle.forcelog.specs.Printed.{decimalOf, decimal, refusal, roomOfWords, words}
 
 -- ---- the fewest digits that hold a number are its decimal
 pub digits-decimal : (most k n : ℕ) → k ≤ most → Fewest 10 1 n k → digits 10 k n ≡ decimalOf most n

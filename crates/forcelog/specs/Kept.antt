@@ -1,8 +1,6 @@
 -- A log whose run can be saved: its state and its held wind are in range. Its step number is how many lines were taken.
 use mathlib.Core.Path.{_≡_}
 use mathlib.Core.Bool.{true}
-use Rattle.lists.specs.declared.rows.Answer.{Answer}
-use Rattle.surge.specs.declared.Clock.{Clock}
 use Rattle.limits.specs.Limits.{row12Held}
 use Rattle.surge.specs.State.{rows1to10, windOf}
 use Rattle.forcelog.specs.declared.Log.{Log}

@@ -22,7 +22,7 @@ use Rattle.statements.specs.Demand3.{Weather, accepts, run, saved}
 use Rattle.statements.specs.RoundTrip.{gives}
 use Rattle.statements.specs.Examples.{Outcome, stepped, T, T-parameters, T-rooms}
 use Rattle.statements.specs.Computed.{on-T, east, north, calm, flood, text-room, text, calls, at, end, answer, ComputedHolds}
-use Rattle.statements.proofs.Demand3Holds.{demand3-at-surge}
+use Rattle.statements.proofs.Demand3Proof.{demand3-at-surge}
 use Rattle.statements.proofs.Computing.{arithmetic, tables, the-rows, the-formulas, the-equations, the-frames, the-calls}
 
 -- ---- the runs in numbers

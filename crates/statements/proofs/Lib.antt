@@ -1,7 +1,8 @@
 pub mod Outcomes
 pub mod Computing
-pub mod Demand3Holds
-pub mod Holds
+pub mod ExamplesProof
+pub mod Demand1Proof
+pub mod RoundTripProof
+pub mod Demand3Proof
 pub mod ComputedProof
-pub mod Demand1Holds
-pub mod RoundTripHolds
+pub mod PrintingProof

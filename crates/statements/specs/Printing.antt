@@ -1,0 +1,15 @@
+-- The printing program: what it prints is a definition over the whole input, cut at its line feeds (forcelog/specs/Printed).
+use Prim.Native.Nat.{ℕ}
+use mathlib.Core.Path.{_≡_}
+use mathlib.Core.List.{List, []}
+use lib.ListN.{length}
+use Rattle.forcelog.specs.Log.{coldLog}
+use Rattle.forcelog.specs.Printed.{printed, taking, pieces}
+use Rattle.forcelog.specs.Empty.{fiveLines}
+
+pub record PrintingHolds : Type 0 where
+  -- Taking the input 57 bytes at a time, as the program does, prints the same as taking it line by line, on every input.
+  pub by-pieces : (input : List ℕ) → taking (pieces input) coldLog ≡ printed input
+  -- "Empty input prints five lines, 289 bytes", those that are shown.
+  pub empty : printed [] ≡ fiveLines
+  pub five-lines : length fiveLines ≡ 289
