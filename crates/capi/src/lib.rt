@@ -55,8 +55,8 @@ pub extern "C" fn surge_open(
     ensures { λ r. ⌜ after (reply (answer r (now (place .exit)) (now (value .exit))) (clock (now (step .exit)) (now (wx .exit)) (now (wy .exit)))) (now (state .exit)) ≡ openOf (mesh (now (x .entry)) (now (y .entry)) (now (tri .entry)) (now (h .entry)) (now (kind .entry))) (parameters dt tau k f) (now (state .entry)) ⌝ }
 {
     let p = Parameters { dt, tau, k, f };
-    let r = surge::open(state, x, y, tri, h, kind, p);
-    hand_back(place, value, step, wx, wy, r)
+    let opened = surge::open(state, x, y, tri, h, kind, p);
+    hand_back(place, value, step, wx, wy, opened)
 }
 
 // Steps. The clock goes in and comes back; the new wind goes in beside it.
@@ -97,8 +97,8 @@ pub extern "C" fn surge_step(
         wx: wx_new,
         wy: wy_new,
     };
-    let r = surge::step(next, work, sums, state, x, y, tri, h, kind, p, c, new);
-    hand_back(place, value, step, wx, wy, r)
+    let stepped = surge::step(next, work, sums, state, x, y, tri, h, kind, p, c, new);
+    hand_back(place, value, step, wx, wy, stepped)
 }
 
 // Saves. The clock only goes in; the place of an accepted answer is the bytes written.
@@ -125,10 +125,10 @@ pub extern "C" fn surge_save(
 {
     let p = Parameters { dt, tau, k, f };
     let c = Clock { step, wx, wy };
-    let r = saves::save(text, state, x, y, tri, h, kind, p, c);
-    *place = r.place;
-    *value = r.value;
-    r.number
+    let saved = saves::save(text, state, x, y, tri, h, kind, p, c);
+    *place = saved.place;
+    *value = saved.value;
+    saved.number
 }
 
 // Loads. The clock goes in, since a refusal leaves it as found, and comes back.
@@ -159,8 +159,8 @@ pub extern "C" fn surge_load(
         wx: *wx,
         wy: *wy,
     };
-    let r = saves::load(state, text, x, y, tri, h, kind, p, c);
-    hand_back(place, value, step, wx, wy, r)
+    let loaded = saves::load(state, text, x, y, tri, h, kind, p, c);
+    hand_back(place, value, step, wx, wy, loaded)
 }
 
 // Reads one forcing line. The forcing only comes back: three +0 where the line is refused.
@@ -176,11 +176,11 @@ pub extern "C" fn surge_read_forcing(
 ) -> u32
     ensures { λ r. ⌜ taken (answer r (now (place .exit)) (now (value .exit))) (forcing (now (elevation .exit)) (now (wx .exit)) (now (wy .exit))) ≡ takenOf (now (line .entry)) expected ⌝ }
 {
-    let r = saves::read_forcing(line, expected);
-    *place = r.answer.place;
-    *value = r.answer.value;
-    *elevation = r.forcing.elevation;
-    *wx = r.forcing.wx;
-    *wy = r.forcing.wy;
-    r.answer.number
+    let read = saves::read_forcing(line, expected);
+    *place = read.answer.place;
+    *value = read.answer.value;
+    *elevation = read.forcing.elevation;
+    *wx = read.forcing.wx;
+    *wy = read.forcing.wy;
+    read.answer.number
 }
