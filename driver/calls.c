@@ -16,9 +16,17 @@ int script_begin(struct script *s, FILE *out)
         const char *name;
         enum form form;
     } table[SLICES] = {
-        [X] = {"x", SIGNED_32},     [Y] = {"y", SIGNED_32},   [TRI] = {"tri", UNSIGNED_16},   [H] = {"h", FLOAT},
-        [KIND] = {"kind", UNSIGNED_8}, [STATE] = {"state", FLOAT}, [NEXT] = {"next", FLOAT},  [WORK] = {"work", FLOAT},
-        [SUMS] = {"sums", UNSIGNED_64}, [TEXT] = {"text", BYTE}, [LINE] = {"line", BYTE},
+        [X] = {"x", SIGNED_32},
+        [Y] = {"y", SIGNED_32},
+        [TRI] = {"tri", UNSIGNED_16},
+        [H] = {"h", FLOAT},
+        [KIND] = {"kind", UNSIGNED_8},
+        [STATE] = {"state", FLOAT},
+        [NEXT] = {"next", FLOAT},
+        [WORK] = {"work", FLOAT},
+        [SUMS] = {"sums", UNSIGNED_64},
+        [TEXT] = {"text", BYTE},
+        [LINE] = {"line", BYTE},
     };
     int fine = 1;
     int i;

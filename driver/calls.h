@@ -11,10 +11,13 @@ enum slice_name { X, Y, TRI, H, KIND, STATE, NEXT, WORK, SUMS, TEXT, LINE, SLICE
 
 struct script {
     struct slice slices[SLICES];
-    double dt, tau, k, f;            /* the parameters */
-    uint32_t step;                   /* the clock */
+    /* the parameters */
+    double dt, tau, k, f;
+    /* the clock */
+    uint32_t step;
     double wx, wy;
-    double elevation, wx_new, wy_new; /* the forcing */
+    /* the forcing */
+    double elevation, wx_new, wy_new;
     FILE *out;
 };
 

@@ -230,9 +230,23 @@ static enum outcome command(struct script *s, const char *line, size_t length)
         const char *name;
         enum outcome (*does)(struct script *, struct words *);
     } commands[] = {
-        {"set", set},     {"fill", fill},   {"put", put},   {"keep", keep},   {"add", add},     {"parameters", parameters},
-        {"clock", clock_is}, {"forcing", forcing}, {"swap", swap}, {"open", command_open}, {"step", command_step}, {"save", command_save},
-        {"load", command_load},   {"read", command_read},   {"print", print}, {"digest", digest}, {"echo", echo},
+        {"set", set},
+        {"fill", fill},
+        {"put", put},
+        {"keep", keep},
+        {"add", add},
+        {"parameters", parameters},
+        {"clock", clock_is},
+        {"forcing", forcing},
+        {"swap", swap},
+        {"open", command_open},
+        {"step", command_step},
+        {"save", command_save},
+        {"load", command_load},
+        {"read", command_read},
+        {"print", print},
+        {"digest", digest},
+        {"echo", echo},
     };
     struct words w = words_of(line, length);
     struct word name;
@@ -284,7 +298,7 @@ static enum line_read read_line(struct text *t, FILE *in)
     return t->count == 0 ? NO_LINE : UNENDED;
 }
 
-/* Line by line to the end, or to the first line that is bad. The last line too is ended by a line feed. */
+/* Line by line to the end, or to the first line that is bad. A command is ended by a line feed, on the last line too. */
 static enum outcome run(struct script *s, struct text *t, FILE *in)
 {
     uint64_t number = 1;
@@ -297,7 +311,7 @@ static enum outcome run(struct script *s, struct text *t, FILE *in)
     }
     if (got == NO_ROOM)
         o = NO_MEMORY;
-    if (got == UNENDED)
+    if (got == UNENDED && t->at[0] != '#')
         o = BAD;
     if (o == BAD)
         fprintf(s->out, "bad line %" PRIu64 "\n", number);

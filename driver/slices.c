@@ -25,7 +25,6 @@ static size_t width(enum form form)
     return sizeof(uint8_t);
 }
 
-/* Every member of a union starts where it starts, so its first bytes are the element. */
 static void *place(const struct slice *s, size_t i)
 {
     return (char *)s->at + i * width(s->form);
@@ -67,6 +66,7 @@ static int grow(struct slice *s, size_t needed)
     return 1;
 }
 
+/* Every member of a union starts where the union starts, so its first bytes are the element. */
 int slice_add(struct slice *s, union element e, size_t times)
 {
     size_t i;
