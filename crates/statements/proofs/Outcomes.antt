@@ -6,6 +6,8 @@ use Rattle.frames.specs.Building.{Put, putOut}
 use Rattle.surge.specs.Lent.{After, after}
 use Rattle.surge.specs.Step.{StepOut, stepOut}
 use Rattle.saves.specs.Save.{SaveOut, saveOut}
+use Rattle.saves.specs.declared.Taken.{Taken}
+use Rattle.capi.specs.Numbers.{clock, forcing, answer, reply, taken}
 use Rattle.statements.specs.Determined.{Determined}
 use Rattle.lists.proofs.rows.accept.Kinds as accept-kinds
 use Rattle.lists.proofs.rows.accept.Reads as accept-reads
@@ -93,6 +95,16 @@ use Rattle.forcelog.proofs.end.Kinds as end-kinds
 use Rattle.forcelog.proofs.end.Reads as end-reads
 use Rattle.forcelog.proofs.refusal.Kinds as refusal-kinds
 use Rattle.forcelog.proofs.refusal.Reads as refusal-reads
+use Rattle.capi.proofs.surge_open.Kinds as surge-open-kinds
+use Rattle.capi.proofs.surge_open.Reads as surge-open-reads
+use Rattle.capi.proofs.surge_step.Kinds as surge-step-kinds
+use Rattle.capi.proofs.surge_step.Reads as surge-step-reads
+use Rattle.capi.proofs.surge_save.Kinds as surge-save-kinds
+use Rattle.capi.proofs.surge_save.Reads as surge-save-reads
+use Rattle.capi.proofs.surge_load.Kinds as surge-load-kinds
+use Rattle.capi.proofs.surge_load.Reads as surge-load-reads
+use Rattle.capi.proofs.surge_read_forcing.Kinds as surge-read-forcing-kinds
+use Rattle.capi.proofs.surge_read_forcing.Reads as surge-read-forcing-reads
 
 -- the one law: two values that equal a third are equal
 same : {A : Type 0} {x y z : A} → x ≡ z → y ≡ z → x ≡ y
@@ -265,3 +277,54 @@ take-asks-nothing κs a = tt
 
 pub end-asks-nothing : (κs : Lfts 1) (a : Dens κs end-kinds.ps) → end-reads.Asked κs a
 end-asks-nothing κs a = tt
+
+-- ---- the calls for C: the number is the result, and all else that they hand back goes through pointers
+pub surge-open-determined : Determined surge-open-kinds.ps surge-open-kinds.r surge-open-reads.Post
+surge-open-determined κs a x y v w p q =
+    let e : after (reply (answer x (v .1 .0) (v .1 .1 .0)) (clock (v .1 .1 .1 .0) (v .1 .1 .1 .1 .0) (v .1 .1 .1 .1 .1 .0))) (v .0) ≡ after (reply (answer y (w .1 .0) (w .1 .1 .0)) (clock (w .1 .1 .1 .0) (w .1 .1 .1 .1 .0) (w .1 .1 .1 .1 .1 .0))) (w .0) = same p q in (
+      ap (λ (o : After). o .reply .answer .number) e,
+      λ i. (e i .state, (e i .reply .answer .place, (e i .reply .answer .value, (e i .reply .clock .step, (e i .reply .clock .wx, (e i .reply .clock .wy, (tt, (tt, (tt, (tt, (tt, (tt, (tt, (tt, (tt, tt))))))))))))))),
+    )
+
+pub surge-open-asks-nothing : (κs : Lfts 11) (a : Dens κs surge-open-kinds.ps) → surge-open-reads.Asked κs a
+surge-open-asks-nothing κs a = tt
+
+pub surge-step-determined : Determined surge-step-kinds.ps surge-step-kinds.r surge-step-reads.Post
+surge-step-determined κs a x y v w p q =
+    let e : stepOut (reply (answer x (v .1 .1 .1 .0) (v .1 .1 .1 .1 .0)) (clock (v .1 .1 .1 .1 .1 .0) (v .1 .1 .1 .1 .1 .1 .0) (v .1 .1 .1 .1 .1 .1 .1 .0))) (v .0) (v .1 .0) (v .1 .1 .0) ≡ stepOut (reply (answer y (w .1 .1 .1 .0) (w .1 .1 .1 .1 .0)) (clock (w .1 .1 .1 .1 .1 .0) (w .1 .1 .1 .1 .1 .1 .0) (w .1 .1 .1 .1 .1 .1 .1 .0))) (w .0) (w .1 .0) (w .1 .1 .0) = same p q in (
+      ap (λ (o : StepOut). o .reply .answer .number) e,
+      λ i. (e i .rooms .next, (e i .rooms .work, (e i .rooms .sums, (e i .reply .answer .place, (e i .reply .answer .value, (e i .reply .clock .step, (e i .reply .clock .wx, (e i .reply .clock .wy, (tt, (tt, (tt, (tt, (tt, (tt, (tt, (tt, (tt, (tt, (tt, (tt, (tt, tt))))))))))))))))))))),
+    )
+
+pub surge-step-asks-nothing : (κs : Lfts 14) (a : Dens κs surge-step-kinds.ps) → surge-step-reads.Asked κs a
+surge-step-asks-nothing κs a = tt
+
+pub surge-save-determined : Determined surge-save-kinds.ps surge-save-kinds.r surge-save-reads.Post
+surge-save-determined κs a x y v w p q =
+    let e : saveOut (answer x (v .1 .0) (v .1 .1 .0)) (v .0) ≡ saveOut (answer y (w .1 .0) (w .1 .1 .0)) (w .0) = same p q in (
+      ap (λ (o : SaveOut). o .answer .number) e,
+      λ i. (e i .text, (e i .answer .place, (e i .answer .value, (tt, (tt, (tt, (tt, (tt, (tt, (tt, (tt, (tt, (tt, (tt, (tt, (tt, tt)))))))))))))))),
+    )
+
+pub surge-save-asks-nothing : (κs : Lfts 9) (a : Dens κs surge-save-kinds.ps) → surge-save-reads.Asked κs a
+surge-save-asks-nothing κs a = tt
+
+pub surge-load-determined : Determined surge-load-kinds.ps surge-load-kinds.r surge-load-reads.Post
+surge-load-determined κs a x y v w p q =
+    let e : after (reply (answer x (v .1 .0) (v .1 .1 .0)) (clock (v .1 .1 .1 .0) (v .1 .1 .1 .1 .0) (v .1 .1 .1 .1 .1 .0))) (v .0) ≡ after (reply (answer y (w .1 .0) (w .1 .1 .0)) (clock (w .1 .1 .1 .0) (w .1 .1 .1 .1 .0) (w .1 .1 .1 .1 .1 .0))) (w .0) = same p q in (
+      ap (λ (o : After). o .reply .answer .number) e,
+      λ i. (e i .state, (e i .reply .answer .place, (e i .reply .answer .value, (e i .reply .clock .step, (e i .reply .clock .wx, (e i .reply .clock .wy, (tt, (tt, (tt, (tt, (tt, (tt, (tt, (tt, (tt, (tt, tt)))))))))))))))),
+    )
+
+pub surge-load-asks-nothing : (κs : Lfts 12) (a : Dens κs surge-load-kinds.ps) → surge-load-reads.Asked κs a
+surge-load-asks-nothing κs a = tt
+
+pub surge-read-forcing-determined : Determined surge-read-forcing-kinds.ps surge-read-forcing-kinds.r surge-read-forcing-reads.Post
+surge-read-forcing-determined κs a x y v w p q =
+    let e : taken (answer x (v .0) (v .1 .0)) (forcing (v .1 .1 .0) (v .1 .1 .1 .0) (v .1 .1 .1 .1 .0)) ≡ taken (answer y (w .0) (w .1 .0)) (forcing (w .1 .1 .0) (w .1 .1 .1 .0) (w .1 .1 .1 .1 .0)) = same p q in (
+      ap (λ (o : Taken). o .answer .number) e,
+      λ i. (e i .answer .place, (e i .answer .value, (e i .forcing .elevation, (e i .forcing .wx, (e i .forcing .wy, (tt, (tt, tt))))))),
+    )
+
+pub surge-read-forcing-asks-nothing : (κs : Lfts 6) (a : Dens κs surge-read-forcing-kinds.ps) → surge-read-forcing-reads.Asked κs a
+surge-read-forcing-asks-nothing κs a = tt

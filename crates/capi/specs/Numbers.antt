@@ -1,0 +1,29 @@
+-- The product's records, from the numbers that a C program passes and gets back one by one. What a call does is said by the product's own
+-- definitions (openOf, stepOf, saveOf, loadOf, takenOf) on these records, and by nothing else.
+use Prim.Native.Nat.{ℕ}
+use lib.Ieee.{Float}
+use Rattle.lists.specs.declared.rows.Answer.{Answer}
+use Rattle.equations.specs.declared.Parameters.{Parameters}
+use Rattle.surge.specs.declared.Clock.{Clock}
+use Rattle.surge.specs.declared.Forcing.{Forcing}
+use Rattle.surge.specs.declared.Reply.{Reply}
+use Rattle.saves.specs.declared.Taken.{Taken}
+
+abbrev pub parameters : Float → Float → Float → Float → Parameters
+parameters dt tau k f = record { dt = dt; tau = tau; k = k; f = f }
+
+abbrev pub clock : ℕ → Float → Float → Clock
+clock step wx wy = record { step = step; wx = wx; wy = wy }
+
+abbrev pub forcing : Float → Float → Float → Forcing
+forcing elevation wx wy = record { elevation = elevation; wx = wx; wy = wy }
+
+-- the number is the function's result; the place and the value go through a pointer each
+abbrev pub answer : ℕ → ℕ → Float → Answer
+answer number place value = record { number = number; place = place; value = value }
+
+abbrev pub reply : Answer → Clock → Reply
+reply a k = record { answer = a; clock = k }
+
+abbrev pub taken : Answer → Forcing → Taken
+taken a f = record { answer = a; forcing = f }

@@ -1,0 +1,186 @@
+// The calls on a run, for C programs to link: include/surge.h declares them. Each is the product's call of the same name. A slice crosses as a pointer
+// and a length, and a record as the numbers that it holds: those that come back, or go in and come back, through a pointer each, the others as
+// themselves. The refusal number is the result. No length is tested here: the product's row 1 does it, so a call answers exactly as the product's.
+use equations::Parameters;
+use surge::Clock;
+use surge::Forcing;
+use surge::Reply;
+ghost use mathlib.Core.Path.{_≡_};
+ghost use Rattle.surge.specs.Lent.{mesh, after};
+ghost use Rattle.surge.specs.Open.{openOf};
+ghost use Rattle.surge.specs.Step.{given, lentRooms, stepOut, stepOf};
+ghost use Rattle.saves.specs.Save.{saveOut, saveOf};
+ghost use Rattle.saves.specs.Load.{loadOf};
+ghost use Rattle.saves.specs.Forcings.{takenOf};
+ghost use Rattle.capi.specs.Numbers.{parameters, clock, forcing, answer, reply, taken};
+
+// Hands back what a call on a run replies: all but the number through pointers.
+fn hand_back(
+    place: &mut usize,
+    value: &mut f64,
+    step: &mut u32,
+    wx: &mut f64,
+    wy: &mut f64,
+    r: Reply,
+) -> u32
+    ensures { λ n. ⌜ reply (answer n (now (place .exit)) (now (value .exit))) (clock (now (step .exit)) (now (wx .exit)) (now (wy .exit))) ≡ r ⌝ }
+{
+    *place = r.answer.place;
+    *value = r.answer.value;
+    *step = r.clock.step;
+    *wx = r.clock.wx;
+    *wy = r.clock.wy;
+    r.answer.number
+}
+
+// Opens a mesh. The clock only comes back: it is the cold one, refused or not.
+#[no_mangle]
+pub extern "C" fn surge_open(
+    state: &mut [f64],
+    place: &mut usize,
+    value: &mut f64,
+    step: &mut u32,
+    wx: &mut f64,
+    wy: &mut f64,
+    x: &[i32],
+    y: &[i32],
+    tri: &[u16],
+    h: &[f64],
+    kind: &[u8],
+    dt: f64,
+    tau: f64,
+    k: f64,
+    f: f64,
+) -> u32
+    ensures { λ r. ⌜ after (reply (answer r (now (place .exit)) (now (value .exit))) (clock (now (step .exit)) (now (wx .exit)) (now (wy .exit)))) (now (state .exit)) ≡ openOf (mesh (now (x .entry)) (now (y .entry)) (now (tri .entry)) (now (h .entry)) (now (kind .entry))) (parameters dt tau k f) (now (state .entry)) ⌝ }
+{
+    let p = Parameters { dt, tau, k, f };
+    let opened = surge::open(state, x, y, tri, h, kind, p);
+    hand_back(place, value, step, wx, wy, opened)
+}
+
+// Steps. The clock goes in and comes back; the new wind goes in beside it.
+#[no_mangle]
+pub extern "C" fn surge_step(
+    next: &mut [f64],
+    work: &mut [f64],
+    sums: &mut [u64],
+    place: &mut usize,
+    value: &mut f64,
+    step: &mut u32,
+    wx: &mut f64,
+    wy: &mut f64,
+    state: &[f64],
+    x: &[i32],
+    y: &[i32],
+    tri: &[u16],
+    h: &[f64],
+    kind: &[u8],
+    dt: f64,
+    tau: f64,
+    k: f64,
+    f: f64,
+    elevation: f64,
+    wx_new: f64,
+    wy_new: f64,
+) -> u32
+    ensures { λ r. ⌜ stepOut (reply (answer r (now (place .exit)) (now (value .exit))) (clock (now (step .exit)) (now (wx .exit)) (now (wy .exit)))) (now (next .exit)) (now (work .exit)) (now (sums .exit)) ≡ stepOf (given (mesh (now (x .entry)) (now (y .entry)) (now (tri .entry)) (now (h .entry)) (now (kind .entry))) (parameters dt tau k f) (now (state .entry)) (clock (now (step .entry)) (now (wx .entry)) (now (wy .entry))) (forcing elevation «wx_new» «wy_new»)) (lentRooms (now (next .entry)) (now (work .entry)) (now (sums .entry))) ⌝ }
+{
+    let p = Parameters { dt, tau, k, f };
+    let c = Clock {
+        step: *step,
+        wx: *wx,
+        wy: *wy,
+    };
+    let new = Forcing {
+        elevation,
+        wx: wx_new,
+        wy: wy_new,
+    };
+    let stepped = surge::step(next, work, sums, state, x, y, tri, h, kind, p, c, new);
+    hand_back(place, value, step, wx, wy, stepped)
+}
+
+// Saves. The clock only goes in; the place of an accepted answer is the bytes written.
+#[no_mangle]
+pub extern "C" fn surge_save(
+    text: &mut [u8],
+    place: &mut usize,
+    value: &mut f64,
+    state: &[f64],
+    x: &[i32],
+    y: &[i32],
+    tri: &[u16],
+    h: &[f64],
+    kind: &[u8],
+    dt: f64,
+    tau: f64,
+    k: f64,
+    f: f64,
+    step: u32,
+    wx: f64,
+    wy: f64,
+) -> u32
+    ensures { λ r. ⌜ saveOut (answer r (now (place .exit)) (now (value .exit))) (now (text .exit)) ≡ saveOf (mesh (now (x .entry)) (now (y .entry)) (now (tri .entry)) (now (h .entry)) (now (kind .entry))) (parameters dt tau k f) (now (state .entry)) (clock step wx wy) (now (text .entry)) ⌝ }
+{
+    let p = Parameters { dt, tau, k, f };
+    let c = Clock { step, wx, wy };
+    let saved = saves::save(text, state, x, y, tri, h, kind, p, c);
+    *place = saved.place;
+    *value = saved.value;
+    saved.number
+}
+
+// Loads. The clock goes in, since a refusal leaves it as found, and comes back.
+#[no_mangle]
+pub extern "C" fn surge_load(
+    state: &mut [f64],
+    place: &mut usize,
+    value: &mut f64,
+    step: &mut u32,
+    wx: &mut f64,
+    wy: &mut f64,
+    text: &[u8],
+    x: &[i32],
+    y: &[i32],
+    tri: &[u16],
+    h: &[f64],
+    kind: &[u8],
+    dt: f64,
+    tau: f64,
+    k: f64,
+    f: f64,
+) -> u32
+    ensures { λ r. ⌜ after (reply (answer r (now (place .exit)) (now (value .exit))) (clock (now (step .exit)) (now (wx .exit)) (now (wy .exit)))) (now (state .exit)) ≡ loadOf (mesh (now (x .entry)) (now (y .entry)) (now (tri .entry)) (now (h .entry)) (now (kind .entry))) (parameters dt tau k f) (now (text .entry)) (now (state .entry)) (clock (now (step .entry)) (now (wx .entry)) (now (wy .entry))) ⌝ }
+{
+    let p = Parameters { dt, tau, k, f };
+    let c = Clock {
+        step: *step,
+        wx: *wx,
+        wy: *wy,
+    };
+    let loaded = saves::load(state, text, x, y, tri, h, kind, p, c);
+    hand_back(place, value, step, wx, wy, loaded)
+}
+
+// Reads one forcing line. The forcing only comes back: three +0 where the line is refused.
+#[no_mangle]
+pub extern "C" fn surge_read_forcing(
+    place: &mut usize,
+    value: &mut f64,
+    elevation: &mut f64,
+    wx: &mut f64,
+    wy: &mut f64,
+    line: &[u8],
+    expected: u32,
+) -> u32
+    ensures { λ r. ⌜ taken (answer r (now (place .exit)) (now (value .exit))) (forcing (now (elevation .exit)) (now (wx .exit)) (now (wy .exit))) ≡ takenOf (now (line .entry)) expected ⌝ }
+{
+    let read = saves::read_forcing(line, expected);
+    *place = read.answer.place;
+    *value = read.answer.value;
+    *elevation = read.forcing.elevation;
+    *wx = read.forcing.wx;
+    *wy = read.forcing.wy;
+    read.answer.number
+}

@@ -1,0 +1,35 @@
+/* What a script holds, and the calls that it makes. */
+#ifndef CALLS_H
+#define CALLS_H
+
+#include "slices.h"
+
+#include <stdint.h>
+#include <stdio.h>
+
+enum slice_name { X, Y, TRI, H, KIND, STATE, NEXT, WORK, SUMS, TEXT, LINE, SLICES };
+
+struct script {
+    struct slice slices[SLICES];
+    /* the parameters */
+    double dt, tau, k, f;
+    /* the clock */
+    uint32_t step;
+    double wx, wy;
+    /* the forcing */
+    double elevation, wx_new, wy_new;
+    FILE *out;
+};
+
+/* Everything empty and zero: 0 where there is no memory for it. `script_end` is called either way. */
+int script_begin(struct script *s, FILE *out);
+void script_end(struct script *s);
+
+/* Each makes its call and prints what comes back. */
+void call_open(struct script *s);
+void call_step(struct script *s);
+void call_save(struct script *s);
+void call_load(struct script *s);
+void call_read(struct script *s, uint32_t expected);
+
+#endif

@@ -1,0 +1,180 @@
+#include "slices.h"
+
+#include <inttypes.h>
+#include <stdlib.h>
+#include <string.h>
+
+/* The longest word is a float's 16 digits or a 64-bit number's 20. */
+enum { WORD_ROOM = 24 };
+
+static size_t width(enum form form)
+{
+    switch (form) {
+    case SIGNED_32:
+        return sizeof(int32_t);
+    case UNSIGNED_16:
+        return sizeof(uint16_t);
+    case UNSIGNED_64:
+        return sizeof(uint64_t);
+    case FLOAT:
+        return sizeof(double);
+    case UNSIGNED_8:
+    case BYTE:
+        break;
+    }
+    return sizeof(uint8_t);
+}
+
+static void *place(const struct slice *s, size_t i)
+{
+    return (char *)s->at + i * width(s->form);
+}
+
+int slice_begin(struct slice *s, const char *name, enum form form)
+{
+    s->name = name;
+    s->form = form;
+    s->count = 0;
+    s->room = 1;
+    s->at = malloc(width(form));
+    return s->at != NULL;
+}
+
+void slice_end(struct slice *s)
+{
+    free(s->at);
+    s->at = NULL;
+}
+
+/* Room for at least `needed` elements: twice as much as before where that is more, so that adding one by one stays quick. */
+static int grow(struct slice *s, size_t needed)
+{
+    size_t most = SIZE_MAX / width(s->form);
+    size_t room = s->room > most / 2 ? most : 2 * s->room;
+    void *at;
+    if (needed <= s->room)
+        return 1;
+    if (needed > most)
+        return 0;
+    if (room < needed)
+        room = needed;
+    at = realloc(s->at, room * width(s->form));
+    if (at == NULL)
+        return 0;
+    s->at = at;
+    s->room = room;
+    return 1;
+}
+
+/* Every member of a union starts where the union starts, so its first bytes are the element. */
+int slice_add(struct slice *s, union element e, size_t times)
+{
+    size_t i;
+    if (times > SIZE_MAX - s->count || !grow(s, s->count + times))
+        return 0;
+    for (i = 0; i < times; i++)
+        memcpy(place(s, s->count + i), &e, width(s->form));
+    s->count += times;
+    return 1;
+}
+
+void slice_put(struct slice *s, size_t at, union element e)
+{
+    if (at < s->count)
+        memcpy(place(s, at), &e, width(s->form));
+}
+
+void slice_keep(struct slice *s, size_t count)
+{
+    if (count < s->count)
+        s->count = count;
+}
+
+int element_of(struct word w, enum form form, union element *to)
+{
+    uint64_t v = 0;
+    int is = 0;
+    switch (form) {
+    case SIGNED_32:
+        return signed_of(w, &to->i32);
+    case FLOAT:
+        return float_of(w, &to->f64);
+    case UNSIGNED_64:
+        return unsigned_of(w, UINT64_MAX, &to->u64);
+    case UNSIGNED_16:
+        is = unsigned_of(w, UINT16_MAX, &v);
+        to->u16 = (uint16_t)v;
+        break;
+    case UNSIGNED_8:
+        is = unsigned_of(w, UINT8_MAX, &v);
+        to->u8 = (uint8_t)v;
+        break;
+    case BYTE:
+        is = hex_of(w, 2, &v);
+        to->u8 = (uint8_t)v;
+        break;
+    }
+    return is;
+}
+
+/* Writes element i as a word, and gives the word's length. */
+static size_t spell(const struct slice *s, size_t i, char to[WORD_ROOM])
+{
+    union element e;
+    int length = 0;
+    memcpy(&e, place(s, i), width(s->form));
+    switch (s->form) {
+    case SIGNED_32:
+        length = snprintf(to, WORD_ROOM, "%" PRId32, e.i32);
+        break;
+    case FLOAT:
+        length = snprintf(to, WORD_ROOM, "%016" PRIX64, pattern_of(e.f64));
+        break;
+    case UNSIGNED_64:
+        length = snprintf(to, WORD_ROOM, "%" PRIu64, e.u64);
+        break;
+    case UNSIGNED_16:
+        length = snprintf(to, WORD_ROOM, "%u", (unsigned)e.u16);
+        break;
+    case UNSIGNED_8:
+        length = snprintf(to, WORD_ROOM, "%u", (unsigned)e.u8);
+        break;
+    case BYTE:
+        length = snprintf(to, WORD_ROOM, "%02X", (unsigned)e.u8);
+        break;
+    }
+    return length < 0 ? 0 : (size_t)length;
+}
+
+void slice_print(const struct slice *s, FILE *out)
+{
+    char word[WORD_ROOM];
+    size_t i;
+    fprintf(out, "set %s", s->name);
+    for (i = 0; i < s->count; i++) {
+        spell(s, i, word);
+        fprintf(out, " %s", word);
+    }
+    fputc('\n', out);
+}
+
+/* 64-bit FNV-1a. */
+static uint64_t hashed(uint64_t hash, const char *bytes, size_t count)
+{
+    size_t i;
+    for (i = 0; i < count; i++)
+        hash = (hash ^ (uint8_t)bytes[i]) * 0x100000001B3u;
+    return hash;
+}
+
+uint64_t slice_digest(const struct slice *s)
+{
+    uint64_t hash = 0xCBF29CE484222325u;
+    char word[WORD_ROOM];
+    size_t i;
+    for (i = 0; i < s->count; i++) {
+        hash = hashed(hash, word, spell(s, i, word));
+        hash = hashed(hash, "\n", 1);
+    }
+    return hash;
+}
