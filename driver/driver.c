@@ -1,6 +1,6 @@
 /*
- * Reads a script (docs/SCRIPT.md) from the file that is named, or from standard input, makes its calls over include/surge.h, and prints what
- * they hand back. Exit status: 0 where the script ended, 2 at a bad line, 1 where a file or memory failed.
+ * Reads the scripts (docs/SCRIPT.md) that are named, or one from standard input, makes their calls over include/surge.h, and prints what they
+ * hand back. Exit status: 0 where each script ended, 2 where one has a bad line, 1 where a file or memory failed.
  */
 #include "calls.h"
 
@@ -339,22 +339,29 @@ static int run_all(FILE *in)
     return o == BAD ? 2 : 0;
 }
 
-int main(int count, char **words)
+static int run_file(const char *name)
 {
-    FILE *in = stdin;
+    FILE *in = fopen(name, "rb");
     int status;
-    if (count > 2) {
-        fputs("usage: driver [SCRIPT]\n", stderr);
-        return 1;
-    }
-    if (count == 2)
-        in = fopen(words[1], "rb");
     if (in == NULL) {
         fputs("driver: the script cannot be read\n", stderr);
         return 1;
     }
     status = run_all(in);
-    if (in != stdin)
-        fclose(in);
+    fclose(in);
+    return status;
+}
+
+int main(int count, char **words)
+{
+    int status = 0;
+    int i;
+    if (count < 2)
+        return run_all(stdin);
+    for (i = 1; i < count && status != 1; i++) {
+        int ended = run_file(words[i]);
+        if (ended != 0)
+            status = ended;
+    }
     return status;
 }
