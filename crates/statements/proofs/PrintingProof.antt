@@ -1,7 +1,11 @@
 -- What is said of the printing program holds.
+use mathlib.Core.Path.{refl}
+use Rattle.forcelog.specs.MeshT.{T, T-parameters}
 use Rattle.forcelog.proofs.PieceLaws.{by-pieces}
 use Rattle.forcelog.proofs.EmptyLaws.{empty-printed, empty-length}
 use Rattle.statements.specs.Printing.{PrintingHolds}
 
 pub printing-holds : PrintingHolds
-printing-holds = record { by-pieces = by-pieces; empty = empty-printed; five-lines = empty-length }
+unfolding T T-parameters
+printing-holds =
+    record { mesh = refl; parameters = refl; by-pieces = by-pieces; empty = empty-printed; five-lines = empty-length }

@@ -6,8 +6,13 @@ use lib.ListN.{length}
 use Rattle.forcelog.specs.Log.{coldLog}
 use Rattle.forcelog.specs.Printed.{printed, taking, pieces}
 use Rattle.forcelog.specs.Empty.{fiveLines}
+use Rattle.forcelog.specs.MeshT as M
+use Rattle.statements.specs.Examples.{T, T-parameters}
 
 pub record PrintingHolds : Type 0 where
+  -- The mesh and the parameters that it holds are those of the examples.
+  pub mesh : M.T ≡ T
+  pub parameters : M.T-parameters ≡ T-parameters
   -- Taking the input 57 bytes at a time, as the program does, prints the same as taking it line by line, on every input.
   pub by-pieces : (input : List ℕ) → taking (pieces input) coldLog ≡ printed input
   -- "Empty input prints five lines, 289 bytes", those that are shown.
