@@ -1,0 +1,141 @@
+//! The formulas of document 01 on single values, shared by the two plain programs. The operations and their order are the document's, so that the bits
+//! are the product's. What does not change within a step is worked out once, before the loops.
+
+use crate::run::{Clock, Forcing, Parameters};
+
+const G: f64 = 9.81;
+
+pub const OPEN: u8 = 1;
+pub const HELD_LAND: u8 = 2;
+
+/// What one step's formulas share.
+#[derive(Clone, Copy)]
+pub struct Terms {
+    dt: f64,
+    tau: f64,
+    k: f64,
+    f: f64,
+    /// 1/dt - tau/2 and 1/dt + tau/2
+    earlier_weight: f64,
+    new_weight: f64,
+    /// dt·K, q and g·dt
+    friction: f64,
+    q: f64,
+    pull: f64,
+    wx: f64,
+    wy: f64,
+    wx_new: f64,
+    wy_new: f64,
+}
+
+impl Terms {
+    pub fn of(p: Parameters, clock: Clock, forcing: Forcing) -> Terms {
+        Terms {
+            dt: p.dt,
+            tau: p.tau,
+            k: p.k,
+            f: p.f,
+            earlier_weight: 1.0 / p.dt - p.tau / 2.0,
+            new_weight: 1.0 / p.dt + p.tau / 2.0,
+            friction: p.dt * p.k,
+            q: (p.f * p.dt) / 2.0,
+            pull: G * p.dt,
+            wx: clock.wx,
+            wy: clock.wy,
+            wx_new: forcing.wx,
+            wy_new: forcing.wy,
+        }
+    }
+}
+
+/// What a node lends to a triangle.
+#[derive(Clone, Copy)]
+pub struct Corner {
+    pub h: f64,
+    pub earlier: f64,
+    pub z: f64,
+    pub u: f64,
+    pub v: f64,
+}
+
+/// a and b of a triangle, as floats.
+#[derive(Clone, Copy)]
+pub struct Sides {
+    pub a: [f64; 3],
+    pub b: [f64; 3],
+}
+
+impl Sides {
+    /// Row 4 holds, so that the differences fit 32 bits and become floats without loss.
+    #[inline(always)]
+    pub fn of(x: [i32; 3], y: [i32; 3]) -> Sides {
+        let ([x1, x2, x3], [y1, y2, y3]) = (x, y);
+        let a = [(x3, x2), (x1, x3), (x2, x1)];
+        let b = [(y2, y3), (y3, y1), (y1, y2)];
+        let difference = |(to, from): (i32, i32)| f64::from(to.wrapping_sub(from));
+        Sides { a: a.map(difference), b: b.map(difference) }
+    }
+
+    /// D: both products are at most 10^10, so that nothing is rounded.
+    #[inline(always)]
+    pub fn twice_area(&self) -> f64 {
+        self.a[2] * self.b[1] - self.a[1] * self.b[2]
+    }
+}
+
+#[inline(always)]
+fn mean(v: [f64; 3]) -> f64 {
+    ((v[0] + v[1]) + v[2]) / 3.0
+}
+
+/// Along x with b, along y with a.
+#[inline(always)]
+pub fn slope(v: [f64; 3], w: [f64; 3]) -> f64 {
+    (v[0] * w[0] + v[1] * w[1]) + v[2] * w[2]
+}
+
+/// What the three corners of a triangle receive.
+#[inline(always)]
+pub fn shares(t: &Terms, corners: [Corner; 3], sides: &Sides, d: f64) -> [f64; 3] {
+    let Sides { a, b } = *sides;
+    let z = corners.map(|c| c.z);
+    let squares = corners.map(|c| c.z * c.z);
+    let ub = mean(corners.map(|c| c.u));
+    let vb = mean(corners.map(|c| c.v));
+    let risen = mean(corners.map(|c| c.z - c.earlier));
+    let qx = mean(corners.map(|c| c.u * (c.h + c.z)));
+    let qy = mean(corners.map(|c| c.v * (c.h + c.z)));
+    let weight = G * mean(corners.map(|c| c.h));
+    let (gx, gy) = (slope(z, b), slope(z, a));
+    let (sx, sy) = (slope(squares, b), slope(squares, a));
+    let twice = 2.0 * d;
+    let jx = ((((t.f * qy - (G * sx) / twice) + t.wx) - t.k * ub) + (ub * risen) / t.dt) + t.tau * qx;
+    let jy = (((((-t.f) * qx - (G * sy) / twice) + t.wy) - t.k * vb) + (vb * risen) / t.dt) + t.tau * qy;
+    let share = |j: usize| (jx * b[j] + jy * a[j]) / 2.0 - (weight * (gx * b[j] + gy * a[j])) / twice;
+    [share(0), share(1), share(2)]
+}
+
+/// z' of a node that is not open.
+#[inline(always)]
+pub fn new_elevation(t: &Terms, s: u64, z: f64, earlier: f64, r: f64) -> f64 {
+    let l = (s as f64 / 6.0) / t.dt;
+    z + ((l * t.earlier_weight) * (z - earlier) + r) / (l * t.new_weight)
+}
+
+/// U' and V' of a node that is not held land.
+#[inline(always)]
+pub fn new_velocity(t: &Terms, c: Corner, z_new: f64, px: f64, py: f64, s: u64) -> (f64, f64) {
+    let column = c.h + c.z;
+    let column_new = c.h + z_new;
+    let twice = 2.0 * s as f64;
+    let r = t.friction / (2.0 * column_new);
+    let (p, m, q) = (1.0 + r, 1.0 - r, t.q);
+    let gx = (t.pull * px) / twice;
+    let gy = (t.pull * py) / twice;
+    let wx = (t.dt * (t.wx_new / column_new + t.wx / column)) / 2.0;
+    let wy = (t.dt * (t.wy_new / column_new + t.wy / column)) / 2.0;
+    let rx = ((m * c.u + q * c.v) - gx) + wx;
+    let ry = ((m * c.v - q * c.u) - gy) + wy;
+    let n = p * p + q * q;
+    ((p * rx + q * ry) / n, (p * ry - q * rx) / n)
+}

@@ -1,0 +1,77 @@
+//! What one program holds of a run while it is measured.
+
+use crate::run::{Answer, Clock, Forcing, Mesh, Program, Rooms};
+
+pub struct Held<'a> {
+    pub program: &'a dyn Program,
+    pub state: Vec<f64>,
+    pub text: Vec<u8>,
+    pub clock: Clock,
+    next: Vec<f64>,
+    work: Vec<f64>,
+    sums: Vec<u64>,
+}
+
+impl<'a> Held<'a> {
+    pub fn new(program: &'a dyn Program, mesh: &Mesh) -> Held<'a> {
+        let n = mesh.nodes();
+        Held {
+            program,
+            state: vec![0.0; 4 * n],
+            text: vec![0; 70 + 73 * n],
+            clock: Clock::COLD,
+            next: vec![0.0; 4 * n],
+            work: vec![0.0; 3 * n],
+            sums: vec![0; n],
+        }
+    }
+
+    pub fn open(&mut self, mesh: &Mesh) {
+        let (answer, clock) = self.program.open(mesh, &mut self.state);
+        self.clock = clock;
+        self.accepted(answer);
+    }
+
+    /// The cold start, without the tests of a mesh.
+    pub fn restart(&mut self) {
+        self.state.fill(0.0);
+        self.clock = Clock::COLD;
+    }
+
+    /// Steps by each forcing; the next state becomes the present one.
+    pub fn steps(&mut self, mesh: &Mesh, forcings: &[Forcing]) {
+        for &forcing in forcings {
+            let (answer, clock) = self.step(mesh, forcing);
+            self.accepted(answer);
+            self.clock = clock;
+            std::mem::swap(&mut self.state, &mut self.next);
+        }
+    }
+
+    /// One call, whatever it answers.
+    pub fn step(&mut self, mesh: &Mesh, forcing: Forcing) -> (Answer, Clock) {
+        let rooms = Rooms { next: &mut self.next, work: &mut self.work, sums: &mut self.sums };
+        self.program.step(mesh, rooms, &self.state, self.clock, forcing)
+    }
+
+    pub fn save(&mut self, mesh: &Mesh) {
+        let answer = self.program.save(mesh, &mut self.text, &self.state, self.clock);
+        self.accepted(answer);
+    }
+
+    pub fn load(&mut self, mesh: &Mesh) {
+        let (answer, clock) = self.program.load(mesh, &mut self.state, &self.text, self.clock);
+        self.accepted(answer);
+        self.clock = clock;
+    }
+
+    fn accepted(&self, answer: Answer) {
+        assert_eq!(answer.number, 0, "{} refused: {answer:?}", self.program.name());
+    }
+
+    /// The state's and the clock's bits, for comparing.
+    pub fn bits(&self) -> Vec<u64> {
+        let clock = [self.clock.wx, self.clock.wy, f64::from(self.clock.step)];
+        self.state.iter().chain(&clock).map(|v| v.to_bits()).collect()
+    }
+}

@@ -1,0 +1,187 @@
+//! Measures the product beside two plain Rust programs, in one run and in turn: one that makes the same refusal tests and one that tests nothing.
+//! `tools/bench` builds and runs it; docs/SPEED.md has the figures of one run.
+//!
+//!     bench [ROUNDS]              the tables
+//!     bench CALL PROGRAM COUNT    one call by one program, for a profiler: open, step, save or load by product, tested or bare
+
+mod agree;
+mod bare;
+mod formulas;
+mod held;
+mod hex;
+mod parts;
+mod product;
+mod run;
+mod tested;
+mod timing;
+mod world;
+
+use bare::Bare;
+use held::Held;
+use product::Product;
+use run::{Forcing, Program};
+use tested::Tested;
+use timing::{interleaved, Times};
+use world::{forcings, World};
+
+/// A measure takes this many steps, saves and loads in each round.
+const STEPS: usize = 1_000;
+const SAVES: usize = 20;
+
+/// The steps of a measure of growth, times its nodes: short, since there are five.
+const NODE_STEPS: usize = 600_000;
+
+const TESTED: Tested = Tested { by_pairs: false };
+const BY_PAIRS: Tested = Tested { by_pairs: true };
+
+fn main() {
+    let words: Vec<String> = std::env::args().skip(1).collect();
+    if let [call, program, count] = &words[..] {
+        return only(call, program, count.parse().expect("a count of calls"));
+    }
+    let rounds = words.first().map_or(7, |word| word.parse().expect("a count of rounds"));
+    println!("{} faults answered alike by the product and the tested program", agree::refusals());
+    let world = World::grid(80, 50);
+    let forcings = forcings(STEPS);
+    let state = calls(rounds, &world, &forcings);
+    growth(rounds, &forcings);
+    parts_of_a_step(rounds, &world, &state, forcings[0]);
+}
+
+/// One call by one program, so many times. Steps begin anew after as many as there are forcings.
+fn only(call: &str, name: &str, count: usize) {
+    let world = World::grid(80, 50);
+    let mesh = world.mesh();
+    let programs: [&dyn Program; 3] = [&Product, &TESTED, &Bare];
+    let program = programs.iter().find(|program| program.name() == name).expect("product, tested or bare");
+    let mut run = Held::new(*program, &mesh);
+    let forcings = forcings(STEPS);
+    run.save(&mesh);
+    for at in 0..count {
+        match call {
+            "open" => run.open(&mesh),
+            "step" => {
+                if at % STEPS == 0 {
+                    run.restart();
+                }
+                run.steps(&mesh, &forcings[at % STEPS..][..1]);
+            }
+            "save" => run.save(&mesh),
+            "load" => run.load(&mesh),
+            _ => panic!("open, step, save or load"),
+        }
+    }
+}
+
+fn held<'a>(programs: &[&'a dyn Program], world: &World) -> Vec<Held<'a>> {
+    programs.iter().map(|&program| Held::new(program, &world.mesh())).collect()
+}
+
+/// Stops unless every program holds the same bits and the same text.
+fn same(runs: &[Held]) {
+    for run in &runs[1..] {
+        assert!(run.bits() == runs[0].bits(), "{}: another state", run.program.name());
+        assert!(run.text == runs[0].text, "{}: another text", run.program.name());
+    }
+}
+
+fn time(seconds: f64) -> String {
+    match seconds {
+        s if s >= 1.0 => format!("{s:.3} s"),
+        s if s >= 1e-3 => format!("{:.3} ms", s * 1e3),
+        s => format!("{:.1} us", s * 1e6),
+    }
+}
+
+fn ratio(a: f64, b: f64) -> String {
+    let ratio = a / b;
+    if ratio < 100.0 {
+        format!("{ratio:.2}")
+    } else {
+        format!("{ratio:.0}")
+    }
+}
+
+/// A line of the table: shortest rounds, their ratios, and the ratios of the medians.
+fn line(call: &str, count: usize, times: &[Times]) {
+    let best: Vec<f64> = times.iter().map(|times| times.best() / count as f64).collect();
+    let middle: Vec<f64> = times.iter().map(Times::median).collect();
+    println!(
+        "| {call} | {} | {} | {} | {} | {} | {} / {} |",
+        time(best[0]),
+        time(best[1]),
+        time(best[2]),
+        ratio(best[0], best[1]),
+        ratio(best[0], best[2]),
+        ratio(middle[0], middle[1]),
+        ratio(middle[0], middle[2]),
+    );
+}
+
+/// The four calls by the three programs. The state after the steps comes back.
+fn calls(rounds: usize, world: &World, forcings: &[Forcing]) -> Vec<f64> {
+    let mesh = world.mesh();
+    println!("N {}, E {}, {rounds} rounds, shortest round\n", mesh.nodes(), mesh.triangles());
+    println!("| call | product | (b) tested | (c) bare | product/(b) | product/(c) | by medians |");
+    println!("|---|---|---|---|---|---|---|");
+    let mut runs = held(&[&Product, &TESTED, &Bare], world);
+    line("open", 1, &interleaved(rounds, &mut runs, |run| run.open(&mesh)));
+    let mut pairs = held(&[&Product, &BY_PAIRS, &Bare], world);
+    line("open, (b) with row 6 by pairs", 1, &interleaved(rounds, &mut pairs, |run| run.open(&mesh)));
+    let times = interleaved(rounds, &mut runs, |run| {
+        run.restart();
+        run.steps(&mesh, forcings);
+    });
+    line("step", STEPS, &times);
+    same(&runs);
+    line("save", SAVES, &interleaved(rounds, &mut runs, |run| (0..SAVES).for_each(|_| run.save(&mesh))));
+    same(&runs);
+    let stepped = runs[0].bits();
+    line("load", SAVES, &interleaved(rounds, &mut runs, |run| (0..SAVES).for_each(|_| run.load(&mesh))));
+    same(&runs);
+    assert!(runs[0].bits() == stepped, "another state after the load");
+    println!("\nstates after {STEPS} steps bit-equal, saves byte-equal, loads give the state back\n");
+    runs.swap_remove(0).state
+}
+
+/// The time of a step for each node, as the mesh grows.
+fn growth(rounds: usize, forcings: &[Forcing]) {
+    println!("| N | E | product, ns per node and step | (b) | (c) | product/(b) | product/(c) |");
+    println!("|---|---|---|---|---|---|---|");
+    for (across, along) in [(25, 10), (25, 20), (40, 25), (50, 40), (80, 50)] {
+        let world = World::grid(across, along);
+        let mesh = world.mesh();
+        let n = mesh.nodes();
+        let steps = (NODE_STEPS / n).min(forcings.len());
+        let mut runs = held(&[&Product, &TESTED, &Bare], &world);
+        let times = interleaved(rounds, &mut runs, |run| {
+            run.restart();
+            run.steps(&mesh, &forcings[..steps]);
+        });
+        same(&runs);
+        let [p, b, c] = [0, 1, 2].map(|at: usize| times[at].best() / (steps * n) as f64 * 1e9);
+        println!("| {n} | {} | {p:.1} | {b:.1} | {c:.1} | {} | {} |", mesh.triangles(), ratio(p, b), ratio(p, c));
+    }
+    println!();
+}
+
+fn parts_of_a_step(rounds: usize, world: &World, state: &[f64], forcing: Forcing) {
+    let programs: [&dyn Program; 2] = [&Product, &TESTED];
+    let parts = parts::outside(rounds, &programs, world, state);
+    println!("| part of a step, by refused calls | product | (b) | ratio |");
+    println!("|---|---|---|---|");
+    let compare = |name: &str, part: fn(&parts::Outside) -> f64| {
+        let (p, b) = (part(&parts[0]), part(&parts[1]));
+        println!("| {name} | {} | {} | {} |", time(p), time(b), ratio(p, b));
+    };
+    compare("rows 1 to 12", |t| t.rows);
+    compare("both clearings, R and S, z', row 13 of z'", |t| t.levels - t.rows);
+    compare("Px and Py, U' and V', row 13 of them, the next state written", |t| t.whole - t.levels);
+    compare("the whole", |t| t.whole);
+    println!("\n| part of a step, (b) by itself | time |");
+    println!("|---|---|");
+    let run = Held::new(&TESTED, &world.mesh());
+    for (name, seconds) in parts::inside(rounds, world, state, &run, forcing) {
+        println!("| {name} | {} |", time(seconds));
+    }
+}

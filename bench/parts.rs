@@ -1,0 +1,83 @@
+//! What a step's time is made of.
+
+use crate::formulas::Terms;
+use crate::held::Held;
+use crate::run::{Forcing, Program, State};
+use crate::tested::{mesh, step};
+use crate::timing::{each, interleaved};
+use crate::world::World;
+use std::hint::black_box;
+
+/// How often a part is done in each round.
+const TIMES: usize = 200;
+
+/// The seconds of a program's parts, told apart from outside by calls that are refused at a known point.
+pub struct Outside {
+    /// a call that row 12 refuses: rows 1 to 12
+    pub rows: f64,
+    /// a call that row 13 refuses at the last node's elevation: what is above, both clearings, the first pass, z'
+    pub levels: f64,
+    /// an accepted call
+    pub whole: f64,
+}
+
+/// The two programs' parts, in turn.
+pub fn outside(rounds: usize, programs: &[&dyn Program], world: &World, state: &[f64]) -> Vec<Outside> {
+    let calm = Forcing { elevation: 0.0, wx: 0.0, wy: 0.0 };
+    let stormy = Forcing { wy: 1.0, ..calm };
+    let dry = Forcing { elevation: -30.0, ..calm };
+    // the last node alone is open, and above the water that is asked for there
+    let mut last_open = world.clone();
+    last_open.kind.fill(0);
+    *last_open.kind.last_mut().unwrap() = 1;
+    *last_open.h.last_mut().unwrap() = 25.0;
+    let mut times = [(world, stormy, 12), (&last_open, dry, 13), (world, calm, 0)]
+        .map(|(world, forcing, row)| calls(rounds, programs, world, state, forcing, row).into_iter());
+    let mut next = |which: usize| times[which].next().unwrap();
+    programs.iter().map(|_| Outside { rows: next(0), levels: next(1), whole: next(2) }).collect()
+}
+
+/// The seconds of each program's call, which must answer `row`.
+fn calls(rounds: usize, programs: &[&dyn Program], world: &World, state: &[f64], forcing: Forcing, row: u32) -> Vec<f64> {
+    let mesh = world.mesh();
+    let mut runs: Vec<Held> = programs.iter().map(|&program| Held::new(program, &mesh)).collect();
+    for run in &mut runs {
+        run.state.copy_from_slice(state);
+    }
+    let times = interleaved(rounds, &mut runs, |run| {
+        for _ in 0..TIMES {
+            assert_eq!(run.step(&mesh, forcing).0.number, row);
+        }
+    });
+    times.iter().map(|times| times.best() / TIMES as f64).collect()
+}
+
+/// The seconds of the tested program's parts, each by itself.
+pub fn inside(rounds: usize, world: &World, numbers: &[f64], held: &Held, forcing: Forcing) -> Vec<(&'static str, f64)> {
+    let mesh = world.mesh();
+    let n = mesh.nodes();
+    let state = State::of(numbers, n);
+    let terms = Terms::of(mesh.p, held.clock, forcing);
+    let (mut r, mut px, mut py) = (vec![0.0; n], vec![0.0; n], vec![0.0; n]);
+    let (mut work, mut next, mut sums) = (vec![0.0; 3 * n], vec![0.0; 4 * n], vec![0u64; n]);
+    let mut parts = Vec::new();
+    let mut part = |name: &'static str, work: &mut dyn FnMut()| parts.push((name, each(rounds, TIMES, work)));
+    let marks = mesh::triangles(&mesh).expect("a sound mesh");
+    part("rows 3 to 5 and the marks, over the triangles", &mut || assert!(black_box(mesh::triangles(black_box(&mesh))).is_ok()));
+    part("row 7, over the marks", &mut || assert!(mesh::row_7(black_box(&mesh), &marks).is_ok()));
+    part("row 8, over the nodes", &mut || assert!(mesh::row_8(black_box(&mesh)).is_ok()));
+    part("row 10, over the nodes", &mut || assert!(step::row_10(black_box(&mesh), numbers).is_ok()));
+    part("R and S, over the triangles", &mut || step::gather(black_box(&mesh), &terms, state, &mut r, &mut sums));
+    // z' is made in the place of R, so that later rounds find z' there: the time does not go by the value
+    part("z', over the nodes", &mut || step::raise(black_box(&mesh), &terms, state, &mut r, &sums, forcing.elevation));
+    r.copy_from_slice(state.z);
+    part("row 13 of z'", &mut || assert!(step::row_13_levels(black_box(&mesh), &r).is_ok()));
+    part("Px and Py, over the triangles", &mut || step::slopes(black_box(&mesh), state, &r, &mut px, &mut py));
+    part("U' and V', over the nodes", &mut || step::flows(black_box(&mesh), &terms, state, &r, &sums, &mut px, &mut py));
+    px.copy_from_slice(state.u);
+    py.copy_from_slice(state.v);
+    part("row 13 of U' and V'", &mut || assert!(step::row_13_speeds(black_box(&px), black_box(&py)).is_ok()));
+    part("the next state written", &mut || step::publish(&mut next, black_box(state), &work));
+    part("work room cleared", &mut || step::clear(black_box(&mut work), &mut sums));
+    parts
+}

@@ -1,0 +1,111 @@
+//! What goes into the calls and comes back, alike for the three programs that are measured.
+
+#[derive(Clone, Copy)]
+pub struct Parameters {
+    pub dt: f64,
+    pub tau: f64,
+    pub k: f64,
+    pub f: f64,
+}
+
+#[derive(Clone, Copy)]
+pub struct Clock {
+    pub step: u32,
+    pub wx: f64,
+    pub wy: f64,
+}
+
+impl Clock {
+    pub const COLD: Clock = Clock { step: 0, wx: 0.0, wy: 0.0 };
+
+    pub fn advanced(self, forcing: Forcing) -> Clock {
+        Clock { step: self.step + 1, wx: forcing.wx, wy: forcing.wy }
+    }
+}
+
+#[derive(Clone, Copy)]
+pub struct Forcing {
+    pub elevation: f64,
+    pub wx: f64,
+    pub wy: f64,
+}
+
+/// Number, place and value of the refusal table; number 0 accepts.
+#[derive(Clone, Copy, Debug)]
+pub struct Answer {
+    pub number: u32,
+    pub place: usize,
+    pub value: f64,
+}
+
+impl Answer {
+    pub fn accepted(place: usize) -> Answer {
+        Answer::refused(0, place)
+    }
+
+    pub fn refused(number: u32, place: usize) -> Answer {
+        Answer { number, place, value: 0.0 }
+    }
+}
+
+/// A mesh and its parameters, as they are lent.
+#[derive(Clone, Copy)]
+pub struct Mesh<'a> {
+    pub x: &'a [i32],
+    pub y: &'a [i32],
+    pub tri: &'a [u16],
+    pub h: &'a [f64],
+    pub kind: &'a [u8],
+    pub p: Parameters,
+}
+
+impl<'a> Mesh<'a> {
+    pub fn nodes(&self) -> usize {
+        self.x.len()
+    }
+
+    pub fn triangles(&self) -> usize {
+        self.tri.len() / 3
+    }
+
+    /// The node numbers of each triangle's corners, by ascending triangle.
+    pub fn corners(&self) -> impl Iterator<Item = [usize; 3]> + 'a {
+        let (triples, _) = self.tri.as_chunks::<3>();
+        triples.iter().map(|corners| corners.map(usize::from))
+    }
+}
+
+/// The slices that a step may write.
+pub struct Rooms<'a> {
+    pub next: &'a mut [f64],
+    pub work: &'a mut [f64],
+    pub sums: &'a mut [u64],
+}
+
+/// A state's four runs.
+#[derive(Clone, Copy)]
+pub struct State<'a> {
+    pub earlier: &'a [f64],
+    pub z: &'a [f64],
+    pub u: &'a [f64],
+    pub v: &'a [f64],
+}
+
+impl<'a> State<'a> {
+    /// The runs of n numbers of a slice of 4n.
+    pub fn of(numbers: &'a [f64], n: usize) -> State<'a> {
+        let (earlier, rest) = numbers.split_at(n);
+        let (z, rest) = rest.split_at(n);
+        let (u, v) = rest.split_at(n);
+        State { earlier, z, u, v }
+    }
+}
+
+/// A program that makes the calls. The three are called through this trait alone, so that none is woven into the measuring loop.
+pub trait Program {
+    fn name(&self) -> &'static str;
+    fn open(&self, mesh: &Mesh, state: &mut [f64]) -> (Answer, Clock);
+    fn step(&self, mesh: &Mesh, rooms: Rooms, state: &[f64], clock: Clock, forcing: Forcing) -> (Answer, Clock);
+    fn save(&self, mesh: &Mesh, text: &mut [u8], state: &[f64], clock: Clock) -> Answer;
+    fn load(&self, mesh: &Mesh, state: &mut [f64], text: &[u8], clock: Clock) -> (Answer, Clock);
+}

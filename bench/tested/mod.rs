@@ -1,0 +1,56 @@
+//! Plain Rust that makes the same refusal tests, without `unsafe`.
+
+pub mod mesh;
+pub mod saves;
+pub mod step;
+
+use crate::run::{Answer, Clock, Forcing, Mesh, Program, Rooms};
+
+/// A NaN is outside every range.
+#[inline(always)]
+fn within(low: f64, v: f64, high: f64) -> bool {
+    (low <= v) & (v <= high)
+}
+
+/// How row 6 is tested: by the legs of each node, as one would, or by pairs of triangles, as document 01 sets for the product.
+pub struct Tested {
+    pub by_pairs: bool,
+}
+
+impl Program for Tested {
+    fn name(&self) -> &'static str {
+        if self.by_pairs {
+            "tested, row 6 by pairs"
+        } else {
+            "tested"
+        }
+    }
+
+    #[inline(never)]
+    fn open(&self, mesh: &Mesh, state: &mut [f64]) -> (Answer, Clock) {
+        let row_6 = if self.by_pairs { mesh::row_6_by_pairs } else { mesh::row_6 };
+        if let Err(refusal) = mesh::rows_with_6(mesh, &[(state.len(), 4)], row_6) {
+            return (refusal, Clock::COLD);
+        }
+        state.fill(0.0);
+        (Answer::accepted(0), Clock::COLD)
+    }
+
+    #[inline(never)]
+    fn step(&self, mesh: &Mesh, rooms: Rooms, state: &[f64], clock: Clock, forcing: Forcing) -> (Answer, Clock) {
+        step::step(mesh, rooms, state, clock, forcing)
+    }
+
+    #[inline(never)]
+    fn save(&self, mesh: &Mesh, text: &mut [u8], state: &[f64], clock: Clock) -> Answer {
+        saves::save(mesh, text, state, clock).unwrap_or_else(|refusal| refusal)
+    }
+
+    #[inline(never)]
+    fn load(&self, mesh: &Mesh, state: &mut [f64], text: &[u8], clock: Clock) -> (Answer, Clock) {
+        match saves::load(mesh, state, text) {
+            Ok(loaded) => (Answer::accepted(0), loaded),
+            Err(refusal) => (refusal, clock),
+        }
+    }
+}

@@ -1,0 +1,183 @@
+//! Rows 10 to 13 and the equations. The parts of a step are functions of their own, so that each can be timed by itself.
+
+use super::{mesh, within};
+use crate::formulas::{new_elevation, new_velocity, shares, slope, Corner, Sides, Terms, HELD_LAND, OPEN};
+use crate::run::{Answer, Clock, Forcing, Mesh, Rooms, State};
+
+pub fn step(mesh: &Mesh, rooms: Rooms, state: &[f64], clock: Clock, forcing: Forcing) -> (Answer, Clock) {
+    let Rooms { next, work, sums } = rooms;
+    if let Err(refusal) = rows_1_to_12(mesh, [next.len(), work.len(), sums.len()], state, clock, forcing) {
+        return (refusal, clock);
+    }
+    let state = State::of(state, mesh.nodes());
+    let outcome = solve(mesh, work, sums, state, clock, forcing);
+    if outcome.is_ok() {
+        publish(next, state, work);
+    }
+    clear(work, sums);
+    match outcome {
+        Ok(()) => (Answer::accepted(0), clock.advanced(forcing)),
+        Err(refusal) => (refusal, clock),
+    }
+}
+
+fn rows_1_to_12(mesh: &Mesh, lengths: [usize; 3], state: &[f64], clock: Clock, forcing: Forcing) -> Result<(), Answer> {
+    let [next, work, sums] = lengths;
+    mesh::rows_1_to_9(mesh, &[(next, 4), (work, 3), (sums, 1), (state.len(), 4)])?;
+    row_10(mesh, state)?;
+    if clock.step == u32::MAX {
+        return Err(Answer::refused(11, 0));
+    }
+    held_wind(clock)?;
+    let held = [within(-30.0, forcing.elevation, 30.0), within(-0.1, forcing.wx, 0.1), within(-0.1, forcing.wy, 0.1)];
+    match held.iter().position(|&holds| !holds) {
+        Some(place) => Err(Answer::refused(12, place + 1)),
+        None => Ok(()),
+    }
+}
+
+pub fn held_wind(clock: Clock) -> Result<(), Answer> {
+    if within(-0.1, clock.wx, 0.1) & within(-0.1, clock.wy, 0.1) {
+        return Ok(());
+    }
+    Err(Answer::refused(12, 0))
+}
+
+pub fn row_10(mesh: &Mesh, state: &[f64]) -> Result<(), Answer> {
+    let n = mesh.nodes();
+    let State { earlier, z, u, v } = State::of(state, n);
+    let level = |(&earlier, &z): (&f64, &f64)| within(-30.0, earlier, 30.0) & within(-30.0, z, 30.0);
+    let column = |(&h, &z): (&f64, &f64)| 0.1 <= h + z;
+    let speed = |(&u, &v): (&f64, &f64)| within(-20.0, u, 20.0) & within(-20.0, v, 20.0);
+    let levels = earlier.iter().zip(z);
+    let columns = mesh.h.iter().zip(z);
+    let speeds = u.iter().zip(v);
+    // two slices at a time, which the compiler takes in wide registers; the place is looked for only where there is one
+    let all = levels.clone().fold(true, |all, node| all & level(node))
+        & columns.clone().fold(true, |all, node| all & column(node))
+        & speeds.clone().fold(true, |all, node| all & speed(node));
+    if all {
+        return Ok(());
+    }
+    let mut nodes = levels.zip(columns).zip(speeds);
+    let node = nodes.position(|((levels, columns), speeds)| !(level(levels) & column(columns) & speed(speeds)));
+    Err(Answer::refused(10, node.unwrap_or(0)))
+}
+
+fn solve(mesh: &Mesh, work: &mut [f64], sums: &mut [u64], state: State, clock: Clock, forcing: Forcing) -> Result<(), Answer> {
+    let n = mesh.nodes();
+    let terms = Terms::of(mesh.p, clock, forcing);
+    let (first, rest) = work.split_at_mut(n);
+    let (second, third) = rest.split_at_mut(n);
+    gather(mesh, &terms, state, first, sums);
+    raise(mesh, &terms, state, first, sums, forcing.elevation);
+    row_13_levels(mesh, first)?;
+    slopes(mesh, state, first, second, third);
+    flows(mesh, &terms, state, first, sums, second, third);
+    row_13_speeds(second, third)
+}
+
+/// R and S of every node.
+pub fn gather(mesh: &Mesh, terms: &Terms, state: State, r: &mut [f64], sums: &mut [u64]) {
+    r.fill(0.0);
+    sums.fill(0);
+    // one length for all, so that one test of a node number serves every slice
+    let n = mesh.nodes();
+    let (x, y, h, r, sums) = (&mesh.x[..n], &mesh.y[..n], &mesh.h[..n], &mut r[..n], &mut sums[..n]);
+    let (earlier, z, u, v) = (&state.earlier[..n], &state.z[..n], &state.u[..n], &state.v[..n]);
+    for corners in mesh.corners() {
+        let sides = Sides::of(corners.map(|i| x[i]), corners.map(|i| y[i]));
+        let d = sides.twice_area();
+        let water = corners.map(|i| Corner { h: h[i], earlier: earlier[i], z: z[i], u: u[i], v: v[i] });
+        let given = shares(terms, water, &sides, d);
+        for j in 0..3 {
+            r[corners[j]] += given[j];
+            sums[corners[j]] += d as u64;
+        }
+    }
+}
+
+/// R of every node becomes its z'.
+pub fn raise(mesh: &Mesh, terms: &Terms, state: State, r: &mut [f64], sums: &[u64], elevation: f64) {
+    let n = mesh.nodes();
+    let (kind, r, sums) = (&mesh.kind[..n], &mut r[..n], &sums[..n]);
+    let (earlier, z) = (&state.earlier[..n], &state.z[..n]);
+    for i in 0..n {
+        let risen = new_elevation(terms, sums[i], z[i], earlier[i], r[i]);
+        r[i] = if kind[i] == OPEN { elevation } else { risen };
+    }
+}
+
+fn row_13(node: usize, value: f64) -> Result<(), Answer> {
+    Err(Answer { number: 13, place: node, value })
+}
+
+pub fn row_13_levels(mesh: &Mesh, z_new: &[f64]) -> Result<(), Answer> {
+    let sound = |z: f64, h: f64| within(-30.0, z, 30.0) & (0.1 <= h + z);
+    if z_new.iter().zip(mesh.h).fold(true, |all, (&z, &h)| all & sound(z, h)) {
+        return Ok(());
+    }
+    for (node, (&z, &h)) in z_new.iter().zip(mesh.h).enumerate() {
+        if !sound(z, h) {
+            return row_13(node, if within(-30.0, z, 30.0) { h + z } else { z });
+        }
+    }
+    Ok(())
+}
+
+/// Px and Py of every node.
+pub fn slopes(mesh: &Mesh, state: State, z_new: &[f64], px: &mut [f64], py: &mut [f64]) {
+    px.fill(0.0);
+    py.fill(0.0);
+    let n = mesh.nodes();
+    let (x, y, px, py) = (&mesh.x[..n], &mesh.y[..n], &mut px[..n], &mut py[..n]);
+    let (z, z_new) = (&state.z[..n], &z_new[..n]);
+    for corners in mesh.corners() {
+        let sides = Sides::of(corners.map(|i| x[i]), corners.map(|i| y[i]));
+        let both = corners.map(|i| z[i] + z_new[i]);
+        let (along_x, along_y) = (slope(both, sides.b), slope(both, sides.a));
+        for i in corners {
+            px[i] += along_x;
+            py[i] += along_y;
+        }
+    }
+}
+
+/// Px and Py of every node become its U' and V'.
+pub fn flows(mesh: &Mesh, terms: &Terms, state: State, z_new: &[f64], sums: &[u64], px: &mut [f64], py: &mut [f64]) {
+    let n = mesh.nodes();
+    let (kind, h, px, py) = (&mesh.kind[..n], &mesh.h[..n], &mut px[..n], &mut py[..n]);
+    let (z, u, v) = (&state.z[..n], &state.u[..n], &state.v[..n]);
+    let (z_new, sums) = (&z_new[..n], &sums[..n]);
+    for i in 0..n {
+        let water = Corner { h: h[i], earlier: 0.0, z: z[i], u: u[i], v: v[i] };
+        let (east, north) = new_velocity(terms, water, z_new[i], px[i], py[i], sums[i]);
+        let held = kind[i] == HELD_LAND;
+        px[i] = if held { 0.0 } else { east };
+        py[i] = if held { 0.0 } else { north };
+    }
+}
+
+pub fn row_13_speeds(u_new: &[f64], v_new: &[f64]) -> Result<(), Answer> {
+    let sound = |speed: f64| within(-20.0, speed, 20.0);
+    if u_new.iter().zip(v_new).fold(true, |all, (&u, &v)| all & sound(u) & sound(v)) {
+        return Ok(());
+    }
+    for (node, (&u, &v)) in u_new.iter().zip(v_new).enumerate() {
+        if !(sound(u) & sound(v)) {
+            return row_13(node, if sound(u) { v } else { u });
+        }
+    }
+    Ok(())
+}
+
+pub fn publish(next: &mut [f64], state: State, work: &[f64]) {
+    let (earlier, rest) = next.split_at_mut(state.z.len());
+    earlier.copy_from_slice(state.z);
+    rest.copy_from_slice(work);
+}
+
+pub fn clear(work: &mut [f64], sums: &mut [u64]) {
+    work.fill(0.0);
+    sums.fill(0);
+}

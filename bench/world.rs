@@ -1,0 +1,85 @@
+//! The mesh and the forcings that are measured on: a grid whose nodes are moved by a seeded dice, so that no side is alike, its west side open and its
+//! east side held land.
+
+use crate::run::{Forcing, Mesh, Parameters};
+
+/// Metres between the nodes of the grid, and how far one may be moved in x and in y.
+const SPACING: i32 = 1_000;
+const JITTER: i32 = 200;
+
+/// Numbers that look thrown (xorshift), the same in every run.
+struct Dice(u64);
+
+impl Dice {
+    fn below(&mut self, bound: u64) -> u64 {
+        self.0 ^= self.0 << 13;
+        self.0 ^= self.0 >> 7;
+        self.0 ^= self.0 << 17;
+        (self.0 >> 11) % bound
+    }
+}
+
+#[derive(Clone)]
+pub struct World {
+    pub x: Vec<i32>,
+    pub y: Vec<i32>,
+    pub tri: Vec<u16>,
+    pub h: Vec<f64>,
+    pub kind: Vec<u8>,
+    pub p: Parameters,
+}
+
+impl World {
+    /// A grid of so many nodes across and along.
+    pub fn grid(across: usize, along: usize) -> World {
+        let mut dice = Dice(0x9E37_79B9_7F4A_7C15);
+        let mut moved = |i: usize| i as i32 * SPACING + dice.below(2 * JITTER as u64 + 1) as i32 - JITTER;
+        let (mut x, mut y) = (Vec::new(), Vec::new());
+        for node in 0..across * along {
+            x.push(moved(node % across));
+            y.push(moved(node / across));
+        }
+        let h = (0..across * along).map(|_| 5.0 + dice.below(45_000) as f64 / 1_000.0).collect();
+        let kind = (0..across * along).map(|node| kind_of(node % across, across)).collect();
+        World { x, y, tri: triangles(across, along), h, kind, p: Parameters { dt: 2.0, tau: 0.005, k: 0.002, f: 0.0001 } }
+    }
+
+    pub fn mesh(&self) -> Mesh<'_> {
+        Mesh { x: &self.x, y: &self.y, tri: &self.tri, h: &self.h, kind: &self.kind, p: self.p }
+    }
+}
+
+fn kind_of(column: usize, across: usize) -> u8 {
+    match column {
+        0 => 1,
+        _ if column == across - 1 => 2,
+        _ => 0,
+    }
+}
+
+/// Two triangles for each cell, counter-clockwise, the diagonal turning from cell to cell.
+fn triangles(across: usize, along: usize) -> Vec<u16> {
+    let mut tri = Vec::new();
+    for row in 0..along - 1 {
+        for column in 0..across - 1 {
+            let sw = (row * across + column) as u16;
+            let (se, nw) = (sw + 1, sw + across as u16);
+            let ne = nw + 1;
+            if (row + column) % 2 == 0 {
+                tri.extend([sw, se, ne, sw, ne, nw]);
+            } else {
+                tri.extend([sw, se, nw, se, ne, nw]);
+            }
+        }
+    }
+    tri
+}
+
+/// A tide and a turning wind, step by step.
+pub fn forcings(count: usize) -> Vec<Forcing> {
+    let forcing = |step: usize| {
+        let angle = step as f64 / 150.0;
+        Forcing { elevation: 0.8 * angle.sin(), wx: 0.002 * angle.cos(), wy: 0.001 * (2.0 * angle).sin() }
+    };
+    (0..count).map(forcing).collect()
+}
