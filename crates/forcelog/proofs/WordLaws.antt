@@ -1,4 +1,4 @@
--- Laws of the text of a refusal: numbers in decimal, and a room that is written part by part.
+-- Laws of the text of a refusal: numerals, and a room that is written part by part.
 use Prim.Native.Nat.{ℕ, zero, suc, _+_, _-_, _*_, _/_, _%_, _^_, _<_, _≤_}
 use mathlib.Core.Path.{_≡_, refl, sym, ap, _∙_}
 use mathlib.Core.List.{List, [], _∷_, _++_}
@@ -13,24 +13,24 @@ use Rattle.lists.specs.declared.rows.Answer.{Answer}
 use Rattle.frames.specs.Building.{laid}
 use Rattle.frames.proofs.LaidLaws.{laid-next}
 use Rattle.forcelog.specs.declared.Words.{Words}
-use Rattle.forcelog.specs.Printed.{decimalOf, decimal, refusal, roomOfWords, words}
+use Rattle.forcelog.specs.Printed.{numeralOf, numeral, refusal, roomOfWords, words}
 
--- ---- the fewest digits that hold a number are its decimal
-pub digits-decimal : (most k n : ℕ) → k ≤ most → Fewest 10 1 n k → digits 10 k n ≡ decimalOf most n
-unfolding decimalOf
-digits-decimal most zero n h f = absurd (omega (arith, f .0))
-digits-decimal zero (suc k) n h f = absurd (omega (arith, h))
-digits-decimal (suc most) (suc zero) n h f =
+-- ---- the fewest digits that hold a number are its numeral
+pub digits-numeral : (most k n : ℕ) → k ≤ most → Fewest 10 1 n k → digits 10 k n ≡ numeralOf most n
+unfolding numeralOf
+digits-numeral most zero n h f = absurd (omega (arith, f .0))
+digits-numeral zero (suc k) n h f = absurd (omega (arith, h))
+digits-numeral (suc most) (suc zero) n h f =
     let small : n < 10 = f .1 in
     rw (lt-ltb n 10 small, lt-ltb (n % 10) 10 (omega arith))
-digits-decimal (suc most) (suc (suc k)) n h f =
+digits-numeral (suc most) (suc (suc k)) n h f =
     let most-of-it : n < 10 ^ suc k * 10 = rw pow-suc at (f .1) in
     let one-less : suc (suc k) - 1 ≡ suc k = omega arith in
     let large : 10 ^ k * 10 ≤ n = rw (one-less, pow-suc) at (f .2 (omega arith)) in
     let next : suc k - 1 ≡ k = omega arith in
     let some : 1 ≤ 10 ^ k = one-le-pow k 10 (lit< tt) in
-    let front : digits 10 (suc k) (n / 10) ≡ decimalOf most (n / 10) =
-    digits-decimal most (suc k) (n / 10) (omega arith) (omega arith, omega arith, λ j. rw next (omega arith)) in
+    let front : digits 10 (suc k) (n / 10) ≡ numeralOf most (n / 10) =
+    digits-numeral most (suc k) (n / 10) (omega arith) (omega arith, omega arith, λ j. rw next (omega arith)) in
     rw (le-ltb n 10 (omega arith), lt-ltb (n % 10) 10 (omega arith)) (ap (λ (l : List ℕ). l ++ ((48 + n % 10) ∷ [])) front)
 
 -- 20 digits hold a number of 64 bits
@@ -45,9 +45,9 @@ few-digits n k h f = go (leb k 20) refl
         let grows : 10 ^ 20 ≤ 10 ^ (k - 1) = pow-le-pow-right {n = 10} (lit< tt) {i = 20} {j = k - 1} (omega arith) in
         absurd (omega arith)
 
-pub is-decimal : (text : List ℕ) {k n : ℕ} → n < 18446744073709551616 → Fewest 10 1 n k → take k text ≡ digits 10 k n → take k text ≡ decimal n
-unfolding decimal
-is-decimal text {k} {n} h f e = e ∙ digits-decimal 20 k n (few-digits n k h f) f
+pub is-numeral : (text : List ℕ) {k n : ℕ} → n < 18446744073709551616 → Fewest 10 1 n k → take k text ≡ digits 10 k n → take k text ≡ numeral n
+unfolding numeral
+is-numeral text {k} {n} h f e = e ∙ digits-numeral 20 k n (few-digits n k h f) f
 
 -- ---- what is written so far, and the place after it
 pub record Held (text : List ℕ) (at : ℕ) (done : List ℕ) : Type 0 where
@@ -74,18 +74,18 @@ unfolding words
 held-words {done = done} h = λ i. record { bytes = (h .bytes ∙ ap (λ (l : List ℕ). done ++ l) (zeros-left (length done) roomOfWords)) i; len = h .long i }
 
 -- ---- the room holds every refusal
-decimal-short : (most n : ℕ) → length (decimalOf most n) ≤ most
-unfolding decimalOf
-decimal-short zero n = omega arith
-decimal-short (suc most) n = rw length-append (go (ltb n 10) (decimal-short most (n / 10)))
+numeral-short : (most n : ℕ) → length (numeralOf most n) ≤ most
+unfolding numeralOf
+numeral-short zero n = omega arith
+numeral-short (suc most) n = rw length-append (go (ltb n 10) (numeral-short most (n / 10)))
   where
-    go : (b : Bool) → length (decimalOf most (n / 10)) ≤ most → length (cond b [] (decimalOf most (n / 10))) + 1 ≤ suc most
+    go : (b : Bool) → length (numeralOf most (n / 10)) ≤ most → length (cond b [] (numeralOf most (n / 10))) + 1 ≤ suc most
     go true h = omega arith
     go false h = omega arith
 
 refusal-short : (a : Answer) → length (refusal a) ≤ roomOfWords
-unfolding refusal decimal
-refusal-short a = simp length-append (omega (arith, decimal-short 20 (a .number), decimal-short 20 (a .place)))
+unfolding refusal numeral
+refusal-short a = simp length-append (omega (arith, numeral-short 20 (a .number), numeral-short 20 (a .place)))
 
 -- what a caller learns: its bytes are as many as its length says, or more
 pub words-fit : (a : Answer) (w : Words) → w ≡ words (refusal a) → w .len ≤ length (w .bytes)

@@ -4,18 +4,18 @@ use Prim.Native.Nat.{ℕ}
 use mathlib.Core.List.{List, [], _∷_, _++_}
 use lib.ListN.{replicate}
 
--- 0100000003000100..00FB
-abbrev headLine : List ℕ
-headLine = 48 ∷ 49 ∷ replicate 7 48 ++ (51 ∷ 48 ∷ 48 ∷ 48 ∷ 49 ∷ []) ++ replicate 40 48 ++ (70 ∷ 66 ∷ 10 ∷ [])
+-- "010000000300010000000000000000000000000000000000000000FB", the head, with these last two digits, and the line feed
+abbrev pub headWith : ℕ → ℕ → List ℕ
+headWith high low = 48 ∷ 49 ∷ replicate 7 48 ++ (51 ∷ 48 ∷ 48 ∷ 48 ∷ 49 ∷ []) ++ replicate 40 48 ++ (high ∷ low ∷ 10 ∷ [])
 
 -- 0200 and the two digits of the sequence, of which the last is given, 00..00, F and the last digit of the check byte
 abbrev nodeLine : ℕ → ℕ → List ℕ
 nodeLine sequence check = 48 ∷ 50 ∷ 48 ∷ 48 ∷ 48 ∷ sequence ∷ replicate 64 48 ++ (70 ∷ check ∷ 10 ∷ [])
 
--- 0300040003F6
-abbrev endLine : List ℕ
-endLine = 48 ∷ 51 ∷ 48 ∷ 48 ∷ 48 ∷ 52 ∷ 48 ∷ 48 ∷ 48 ∷ 51 ∷ 70 ∷ 54 ∷ 10 ∷ []
+-- "0300040003F6", the end, with this last digit of its sequence and this of its check byte, and the line feed
+abbrev pub endWith : ℕ → ℕ → List ℕ
+endWith sequence check = 48 ∷ 51 ∷ 48 ∷ 48 ∷ 48 ∷ sequence ∷ 48 ∷ 48 ∷ 48 ∷ 51 ∷ 70 ∷ check ∷ 10 ∷ []
 
--- sequences 1, 2, 3 and check bytes FD, FC, FB
+-- check byte FB; sequences 1, 2, 3 and check bytes FD, FC, FB; sequence 4 and check byte F6
 unfoldable pub fiveLines : List ℕ
-fiveLines = headLine ++ nodeLine 49 68 ++ nodeLine 50 67 ++ nodeLine 51 66 ++ endLine
+fiveLines = headWith 70 66 ++ nodeLine 49 68 ++ nodeLine 50 67 ++ nodeLine 51 66 ++ endWith 52 54

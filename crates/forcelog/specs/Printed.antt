@@ -15,12 +15,12 @@ use Rattle.forcelog.specs.Log.{coldLog, takeOf}
 
 -- ---- a refusal
 -- a number in decimal, with no 0 in front: at most so many digits, and 20 for a number of 64 bits
-unfoldable pub decimalOf : ℕ → ℕ → List ℕ
-decimalOf zero n = []
-decimalOf (suc most) n = cond (ltb n 10) [] (decimalOf most (n / 10)) ++ ((48 + n % 10) ∷ [])
+unfoldable pub numeralOf : ℕ → ℕ → List ℕ
+numeralOf zero n = []
+numeralOf (suc most) n = cond (ltb n 10) [] (numeralOf most (n / 10)) ++ ((48 + n % 10) ∷ [])
 
-unfoldable pub decimal : ℕ → List ℕ
-decimal n = decimalOf 20 n
+unfoldable pub numeral : ℕ → List ℕ
+numeral n = numeralOf 20 n
 
 -- `refused `
 abbrev pub refusedWord : List ℕ
@@ -32,7 +32,7 @@ atWord = 32 ∷ 97 ∷ 116 ∷ 32 ∷ []
 
 -- "`refused R at P` and a line feed, R the number and P the input line"
 unfoldable pub refusal : Answer → List ℕ
-refusal a = refusedWord ++ decimal (a .number) ++ atWord ++ decimal (a .place) ++ (lineFeed ∷ [])
+refusal a = refusedWord ++ numeral (a .number) ++ atWord ++ numeral (a .place) ++ (lineFeed ∷ [])
 
 -- 8 + 20 + 4 + 20 + 1 bytes are room for every refusal; what is past the text is 0
 abbrev pub roomOfWords : ℕ
@@ -46,7 +46,7 @@ words t = record { bytes = t ++ replicate (roomOfWords - length t) 0; len = leng
 abbrev pub ending : Log → List ℕ
 ending log = saveText (N T) (E T) (log .state) (log .clock)
 
--- "It reads forcing lines .., steps, and prints one save at the end. At a refusal it prints only `refused R at P`"
+-- "It reads forcing lines from standard input", "steps, and prints one save at the end. At a refusal it prints only `refused R at P`"
 unfoldable pub taking : List (List ℕ) → Log → List ℕ
 taking [] log = ending log
 taking (line ∷ lines) log =

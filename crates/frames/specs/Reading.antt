@@ -18,7 +18,7 @@ value line at width = cond (leb width 8) (number (take width (drop at (bytes lin
 unfoldable pub isFramed : List ℕ → ℕ → Bool
 isFramed line due = eqb (length line) (due + 1) && eqb (due % 2) 0 && eqb (getD line due 0) lineFeed
 
--- | 20 | line of wrong length, wrong digit, no line feed |
+-- | 20 | line of wrong length, wrong digit, no line feed, bytes after the end | line |: of one line, so all but the last
 unfoldable pub row20 : List ℕ → ℕ → ℕ → Answer
 row20 line due place = row (isFramed line due && allDigits line) 20 place
 

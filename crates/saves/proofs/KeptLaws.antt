@@ -1,9 +1,9 @@
 -- What a save and a load leave, told by the answer that they give; and a run that can be saved stays one: what is loaded of any text passes rows 10 and 12.
 use Prim.Native.Nat.{ℕ, _*_, _<_, _≤_}
-use mathlib.Core.Path.{_≡_, refl, sym, ap, subst, _∙_}
-use mathlib.Core.Bool.{Bool, true, false, true≢false}
+use mathlib.Core.Path.{_≡_, refl, ap, subst, _∙_}
+use mathlib.Core.Bool.{Bool, true, false}
 use mathlib.Core.List.{List}
-use borrow.Author.Tests.{eqb-true, eq-eqb, le-leb}
+use borrow.Author.Tests.{eqb-true, eqb-false, eq-eqb, le-leb}
 use lib.Dec.{eqb}
 use lib.ListN.{length}
 use lib.Ieee.{Float}
@@ -11,7 +11,7 @@ use Rattle.lists.specs.declared.rows.Answer.{Answer}
 use Rattle.lists.proofs.ScanLaws.{row-holds, row-passed, then-next, then-first, then-rest, scan-clean}
 use Rattle.equations.specs.declared.Parameters.{Parameters}
 use Rattle.surge.specs.declared.Clock.{Clock}
-use Rattle.surge.specs.Lent.{Mesh, N, after}
+use Rattle.surge.specs.Lent.{Mesh, N, After, after}
 use Rattle.surge.specs.Rows.{rows1to9}
 use Rattle.limits.specs.Limits.{inBounds, row12Held}
 use Rattle.surge.specs.State.{rows1to10, windOf}
@@ -36,33 +36,41 @@ module _ (m : Mesh) (p : Parameters) (state : List Float) (k : Clock) (t : List 
   save-accepts = ap (λ (a : Answer). a .number) save-writes
 
 -- ---- a load
-clash : {A : Type 0} {b : Bool} → b ≡ true → b ≡ false → A
-clash p q = absurd (true≢false (sym p ∙ q))
-
 module _ (m : Mesh) (p : Parameters) (t : List ℕ) (state : List Float) where
+  -- the text's state and clock
+  abbrev pub tookText : After
+  tookText = after (record { answer = loadAnswer m p t state; clock = clockOf (N m) t }) (loadedState (m .h) t)
+
   module _ (k : Clock) where
-    -- number 0: the rows accepted, and the text's state and clock came back
-    pub load-took : eqb (loadOf m p t state k .reply .answer .number) 0 ≡ true
-        → (loadAnswer m p t state .number ≡ 0)
-        × (loadOf m p t state k ≡ after (record { answer = loadAnswer m p t state; clock = clockOf (N m) t }) (loadedState (m .h) t))
+    -- state and clock as found
+    abbrev pub leftAsFound : After
+    leftAsFound = after (record { answer = loadAnswer m p t state; clock = k }) state
+
+    -- what holds of each of the two outcomes, where it comes, holds of a load's
+    pub load-cases : (P : After → Type 0) → (loadAnswer m p t state .number ≡ 0 → P tookText)
+        → ((loadAnswer m p t state .number ≡ 0 → ⊥) → P leftAsFound) → P (loadOf m p t state k)
     unfolding loadOf
-    load-took e = go (eqb (loadAnswer m p t state .number) 0) refl
+    load-cases P took stayed = go (eqb (loadAnswer m p t state .number) 0) refl
       where
-        go : (b : Bool) → eqb (loadAnswer m p t state .number) 0 ≡ b
-            → (loadAnswer m p t state .number ≡ 0)
-            × (loadOf m p t state k ≡ after (record { answer = loadAnswer m p t state; clock = clockOf (N m) t }) (loadedState (m .h) t))
-        go true q = (eqb-true _ _ q, rw q)
-        go false q = clash (rw q at e) q
+        go : (b : Bool) → eqb (loadAnswer m p t state .number) 0 ≡ b → P (loadOf m p t state k)
+        go true q = rw q (took (eqb-true _ _ q))
+        go false q = rw q (stayed (eqb-false _ _ q))
+
+    -- number 0: the rows accepted, and the text's state and clock came back
+    pub load-took : eqb (loadOf m p t state k .reply .answer .number) 0 ≡ true → (loadAnswer m p t state .number ≡ 0) × (loadOf m p t state k ≡ tookText)
+    load-took =
+        load-cases
+        (λ (o : After). loadOf m p t state k ≡ o → eqb (o .reply .answer .number) 0 ≡ true → (loadAnswer m p t state .number ≡ 0) × (loadOf m p t state k ≡ tookText))
+        (λ h q _. (h, q))
+        (λ h _ e. absurd (h (eqb-true _ _ e)))
+        refl
 
     -- any other number: the state and the clock came back as they were
-    pub load-stayed : eqb (loadOf m p t state k .reply .answer .number) 0 ≡ false
-        → loadOf m p t state k ≡ after (record { answer = loadAnswer m p t state; clock = k }) state
-    unfolding loadOf
-    load-stayed e = go (eqb (loadAnswer m p t state .number) 0) refl
-      where
-        go : (b : Bool) → eqb (loadAnswer m p t state .number) 0 ≡ b → loadOf m p t state k ≡ after (record { answer = loadAnswer m p t state; clock = k }) state
-        go true q = clash q (rw q at e)
-        go false q = rw q
+    pub load-stayed : eqb (loadOf m p t state k .reply .answer .number) 0 ≡ false → loadOf m p t state k ≡ leftAsFound
+    load-stayed =
+        load-cases (λ (o : After). eqb (o .reply .answer .number) 0 ≡ false → o ≡ leftAsFound)
+        (λ h e. absurd (eqb-false _ _ e h))
+        (λ _ _. refl)
 
   -- ---- what an accepted load leaves
   module _ (ok : loadAnswer m p t state .number ≡ 0) where

@@ -4,6 +4,7 @@ use Prim.Native.Nat.{ℕ}
 use mathlib.Core.Bool.{cond}
 use mathlib.Core.List.{List}
 use lib.Dec.{eqb}
+use Rattle.lists.specs.declared.rows.Answer.{Answer}
 use Rattle.lists.specs.Scan.{plus0}
 use Rattle.frames.specs.Frames.{digitsOf, byteOf}
 use Rattle.frames.specs.Reading.{fault}
@@ -20,7 +21,11 @@ forcingOf line =
     let at = byteOf (forcingLayout .widths) in
     record { elevation = float line (at 0); wx = float line (at 1); wy = float line (at 2) }
 
+-- "gives 20, 21, 22, at place 0", of a line of 56 digits and kind 10 (hexadecimal)
+abbrev pub forcingAnswer : List ℕ → ℕ → Answer
+forcingAnswer line expected = fault line (digitsOf (forcingLayout .widths)) (forcingLayout .kind) expected 0
+
 unfoldable pub takenOf : List ℕ → ℕ → Taken
 takenOf line expected =
-    let a = fault line (digitsOf (forcingLayout .widths)) (forcingLayout .kind) expected 0 in
+    let a = forcingAnswer line expected in
     record { answer = a; forcing = cond (eqb (a .number) 0) (forcingOf line) still }

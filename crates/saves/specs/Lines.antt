@@ -17,19 +17,19 @@ pub record Layout : Type 0 where
   pub kind : ℕ
   pub widths : List ℕ
 
--- "01 head: N (2), E (2), step (4), Wx, Wy."
+-- "01 head, sequence 0: N (2), E (2), step (4), Wx, Wy. 56 digits."
 abbrev pub headLayout : Layout
 headLayout = record { kind = 1; widths = 2 ∷ 2 ∷ 4 ∷ 8 ∷ 8 ∷ [] }
 
--- "02 node: earlier z, z, U, V."
+-- "02 node i, sequence i+1: earlier z, z, U, V. 72 digits."
 abbrev pub nodeLayout : Layout
 nodeLayout = record { kind = 2; widths = 8 ∷ 8 ∷ 8 ∷ 8 ∷ [] }
 
--- "03 end: N (2)."
+-- "03 end, sequence N+1: N (2). 12 digits."
 abbrev pub endLayout : Layout
 endLayout = record { kind = 3; widths = 2 ∷ [] }
 
--- "10 forcing: elevation, Wx', Wy'."
+-- "10 forcing, its own sequence from 0 to 65,535: elevation, Wx', Wy'. 56 digits."
 abbrev pub forcingLayout : Layout
 forcingLayout = record { kind = 16; widths = 8 ∷ 8 ∷ 8 ∷ [] }
 

@@ -25,7 +25,7 @@ use Rattle.saves.specs.Lines.{headLayout, nodeLayout, endLayout, layoutA
 abbrev pub lineAt : ℕ → List ℕ → ℕ → List ℕ
 lineAt n t j = take (due n j + 1) (drop (startOf n j) t)
 
--- "a NaN's pattern is read as the one NaN": the float of the 8 bytes at a frame byte
+-- "floats are their 8-byte patterns": the float of the 8 bytes at a frame byte. Every NaN pattern is read as NaN, of which there is one
 abbrev pub float : List ℕ → ℕ → Float
 float line at = ofBits binary64 (value line at 8)
 
@@ -51,7 +51,7 @@ loadedNode h t i =
     let at = byteOf (nodeLayout .widths) in
     record { h = getD h i nan; earlier = float l (at 0); z = float l (at 1); u = float l (at 2); v = float l (at 3) }
 
--- row 10 over the loaded values, "with their node"
+-- "then 10 over the loaded values": row 10 of node i
 abbrev pub row10Read : List Float → List ℕ → ℕ → Answer
 row10Read h t i = row (inBounds (loadedNode h t i)) 10 i
 

@@ -15,7 +15,9 @@ use surge::Reply;
 use surge::mesh;
 use surge::stepping;
 ghost use mathlib.Core.Path.{_≡_};
+ghost use Rattle.limits.specs.Limits.{row12Held};
 ghost use Rattle.surge.specs.Lent.{mesh, after};
+ghost use Rattle.surge.specs.State.{windOf};
 ghost use Rattle.saves.specs.Save.{saveOut, saveOf};
 ghost use Rattle.saves.specs.Forcings.{takenOf};
 ghost use Rattle.saves.specs.Load.{float, loadOf};
@@ -56,6 +58,16 @@ pub fn read_forcing(line: &[u8], expected: u32) -> Taken
     Taken { answer, forcing }
 }
 
+// Row 12 of the wind that a clock holds.
+pub(crate) fn held_wind(clock: Clock) -> Answer
+    ensures { λ r. ⌜ r ≡ row12Held (windOf clock) ⌝ }
+{
+    limits::held_wind(Wind {
+        x: clock.wx,
+        y: clock.wy,
+    })
+}
+
 // Saves a run: rows 1 to 10, the held wind, the text room; then head, nodes and end. The place of an accepted answer is the bytes written.
 pub fn save(
     text: &mut [u8],
@@ -77,11 +89,7 @@ pub fn save(
     let n = x.len();
     let room = 70 + 73 * n;
     let fits = rows::tested(room <= text.len(), 24, room);
-    let held = Wind {
-        x: clock.wx,
-        y: clock.wy,
-    };
-    let rest = rows::first(limits::held_wind(held), fits);
+    let rest = rows::first(held_wind(clock), fits);
     if rest.number != 0 {
         return rest;
     }

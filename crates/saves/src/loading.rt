@@ -1,7 +1,7 @@
 // The lines of a save, read back: the rows of a load, the clock and the state that the lines hold.
 use super::float_at;
+use super::held_wind;
 use equations::Node;
-use equations::Wind;
 use frames::reading;
 use lists::rows;
 use lists::rows::Answer;
@@ -183,12 +183,7 @@ pub(crate) fn text_rows(e: usize, h: &[f64], text: &[u8]) -> Answer
     let n = h.len();
     let read = lines(n, e, text);
     let over = rows::tested(text.len() <= 70 + 73 * n, 20, n + 2);
-    let clock = clock_of(n, text);
-    let held = Wind {
-        x: clock.wx,
-        y: clock.wy,
-    };
-    let wind = limits::held_wind(held);
+    let wind = held_wind(clock_of(n, text));
     let values = bounds(h, text);
     rows::first(read, rows::first(over, rows::first(wind, values)))
 }

@@ -21,7 +21,7 @@ use Rattle.history.specs.History.{Written, Call, step, save, load, Saved, Histo
 use Rattle.statements.specs.Demand3.{Weather, accepts, run, saved}
 use Rattle.statements.specs.RoundTrip.{gives}
 use Rattle.statements.specs.Examples.{Outcome, stepped, T, T-parameters, T-rooms}
-use Rattle.statements.specs.Computed.{on-T, east, north, calm, flood, text-room, text, calls, at, end, answer, ComputedHolds}
+use Rattle.statements.specs.Computed.{on-T, east, north, lull, flood, text-room, text, calls, at, end, answer, ComputedHolds}
 use Rattle.statements.proofs.Demand3Proof.{demand3-at-surge}
 use Rattle.statements.proofs.Computing.{arithmetic, tables, the-rows, the-formulas, the-equations, the-frames, the-calls}
 
@@ -43,8 +43,8 @@ abbrev u-second : Float
 u-second = fin false 4397566877743685 (negsuc 60)
 
 -- after a second step with (0, 0, 0)
-abbrev calmed : Held
-calmed = record {
+abbrev lulled : Held
+lulled = record {
   state = three plus0 ++ z-second ++ three u-second ++ three (fin true 6786095976115901 (negsuc 67));
   clock = record { step = 2; wx = plus0; wy = plus0 };
 }
@@ -81,11 +81,11 @@ saves : saveOf T T-parameters (first .state) (first .clock) text-room .answer �
 unfolding arithmetic tables the-rows the-calls
 saves = refl
 
-to-calmed : stepping first calm ≡ went calmed
+to-lulled : stepping first lull ≡ went lulled
 unfolding arithmetic tables the-rows the-formulas the-equations the-calls
-to-calmed = refl
+to-lulled = refl
 
-loads : loadOf T T-parameters (saved T T-parameters first text-room .text) (calmed .state) (calmed .clock) ≡ gives (first .state) (first .clock)
+loads : loadOf T T-parameters (saved T T-parameters first text-room .text) (lulled .state) (lulled .clock) ≡ gives (first .state) (first .clock)
 unfolding arithmetic tables the-rows the-frames the-calls
 loads = refl
 
@@ -138,11 +138,11 @@ is-3 =
     to (save text-room) is-2
     ∙ ap (λ (w : Written). record { held = first; path = east ∷ []; saved = cond (w .accepted) (record { text = w .text; path = east ∷ [] } ∷ []) [] }) written
 
-abbrev stepped-calm : History on-T
-stepped-calm = record { held = calmed; path = east ∷ calm ∷ []; saved = kept }
+abbrev stepped-lull : History on-T
+stepped-lull = record { held = lulled; path = east ∷ lull ∷ []; saved = kept }
 
-is-4 : at 4 ≡ stepped-calm
-is-4 = to (step calm T-rooms) is-3 ∙ ap (having saved-first calm) to-calmed
+is-4 : at 4 ≡ stepped-lull
+is-4 = to (step lull T-rooms) is-3 ∙ ap (having saved-first lull) to-lulled
 
 -- the text is found among what was saved
 found : latest on-T text kept ≡ some (east ∷ [])
@@ -152,7 +152,7 @@ found = go (List-discrete ℕ-discrete text text)
     go (yes e) = refl
     go (no n) = absurd (n refl)
 
-did-load : loadOf T T-parameters text (calmed .state) (calmed .clock) ≡ gives (first .state) (first .clock)
+did-load : loadOf T T-parameters text (lulled .state) (lulled .clock) ≡ gives (first .state) (first .clock)
 did-load = rw text-is loads
 
 is-5 : at 5 ≡ saved-first
@@ -160,7 +160,7 @@ is-5 =
     to (load text) is-4
     ∙ (λ i. record {
       held = run (did-load i .state) (did-load i .reply .clock);
-      path = cond (accepts (did-load i .reply .answer)) (Option·getD (found i) (east ∷ calm ∷ [])) (east ∷ calm ∷ []);
+      path = cond (accepts (did-load i .reply .answer)) (Option·getD (found i) (east ∷ lull ∷ [])) (east ∷ lull ∷ []);
       saved = kept;
     })
 
@@ -195,7 +195,7 @@ computed-holds = record {
       also (says (step east T-rooms) is-0 (ap of-step to-first) is-1)
       (also (says (step flood T-rooms) is-1 (ap of-step floods) is-2)
       (also (says (save text-room) is-2 saves is-3)
-      (also (says (step calm T-rooms) is-3 (ap of-step to-calmed) is-4)
+      (also (says (step lull T-rooms) is-3 (ap of-step to-lulled) is-4)
       (also (says (load text) is-4 (ap (λ (o : After). o .reply .answer) did-load) is-5)
       (also (says (step north T-rooms) is-5 (ap of-step to-turned) is-6) refl)))));
   refused-step = is-2 ∙ sym is-1;

@@ -1,8 +1,8 @@
 -- The examples of document 01 that are marked P hold, by computation.
 use mathlib.Core.Path.{refl}
-use Rattle.statements.specs.Examples.{head-with, end-with, examples, ExamplesHold}
+use Rattle.statements.specs.Examples.{examples, ExamplesHold}
 use Rattle.statements.proofs.Computing.{arithmetic, tables, the-rows, the-formulas, the-equations, the-frames, the-calls}
 
 pub examples-hold : ExamplesHold
-unfolding examples head-with end-with arithmetic tables the-rows the-formulas the-equations the-frames the-calls
+unfolding examples arithmetic tables the-rows the-formulas the-equations the-frames the-calls
 examples-hold = refl

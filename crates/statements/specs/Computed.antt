@@ -47,8 +47,8 @@ east = weather 0 1 0
 abbrev pub north : Weather
 north = weather 0 0 1
 
-abbrev pub calm : Weather
-calm = weather 0 0 0
+abbrev pub lull : Weather
+lull = weather 0 0 0
 
 abbrev pub flood : Weather
 flood = weather 31 0 0
@@ -76,7 +76,7 @@ computed =
     ∷ line (step flood T-rooms) (stepped (refused 12 1) 1)
     -- 289 bytes are written
     ∷ line (save text-room) (stepped (wrote 289) 1)
-    ∷ line (step calm T-rooms) (stepped accepted 2)
+    ∷ line (step lull T-rooms) (stepped accepted 2)
     -- back to the step number of the save
     ∷ line (load text) (stepped accepted 1)
     ∷ line (step north T-rooms) (stepped accepted 2)

@@ -12,7 +12,6 @@ use Rattle.lists.specs.declared.rows.Answer.{Answer}
 use Rattle.lists.specs.Table.{table, zeros}
 use Rattle.lists.specs.Scan.{_then_}
 use Rattle.equations.specs.declared.Parameters.{Parameters}
-use Rattle.frames.specs.Reading.{fault}
 use Rattle.surge.specs.declared.Clock.{Clock}
 use Rattle.surge.specs.Lent.{Mesh, mesh, N, E, coldState, coldClock, After, after}
 use Rattle.surge.specs.Open.{openAnswer}
@@ -21,7 +20,7 @@ use Rattle.saves.specs.declared.Taken.{Taken}
 use Rattle.saves.specs.Lines.{saveLength}
 use Rattle.saves.specs.Save.{saveText, saveAnswer, SaveOut, saveOut, wrote}
 use Rattle.saves.specs.Load.{loadAnswer}
-use Rattle.saves.specs.Forcings.{still}
+use Rattle.saves.specs.Forcings.{still, forcingAnswer}
 use Rattle.surge.proofs.open.Kinds as open-kinds
 use Rattle.surge.proofs.open.Reads as open-reads
 use Rattle.surge.proofs.step.Kinds as step-kinds
@@ -80,9 +79,9 @@ pub record LoadSays (m : Mesh) (p : Parameters) (t : List ℕ) (state : List Flo
   pub answer : o .reply .answer ≡ loadAnswer m p t state
   pub refused : Refuses (o .reply .answer) → (o .state ≡ state) × (o .reply .clock ≡ k)
 
--- read_forcing: "gives 20, 21, 22, at place 0, and a refused one hands back a forcing of three +0", of a line of 56 digits and kind 10 (hexadecimal)
+-- read_forcing: "gives 20, 21, 22, at place 0, and a refused one hands back a forcing of three +0"
 pub record ForcingSays (line : List ℕ) (expected : ℕ) (o : Taken) : Type 0 where
-  pub answer : o .answer ≡ fault line 56 16 expected 0
+  pub answer : o .answer ≡ forcingAnswer line expected
   pub refused : Refuses (o .answer) → o .forcing ≡ still
 
 -- ---- and said of every outcome

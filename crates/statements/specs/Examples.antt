@@ -19,6 +19,7 @@ use Rattle.saves.specs.Lines.{head, end}
 use Rattle.saves.specs.Save.{linesTo, saveText}
 use Rattle.saves.specs.Load.{loadAnswer}
 use Rattle.saves.specs.Forcings.{still}
+use Rattle.forcelog.specs.Empty.{headWith, endWith}
 
 -- what an example speaks of: the a, b and D of a triangle, the whole answer of a call (number, place and value), a count, an answer with the
 -- step number of the clock that is held after it, or a text
@@ -62,14 +63,6 @@ geometry m = let s = sides (m .x) (m .y) (corners (m .tri) 0) in triangle s (D s
 abbrev pub opening : Mesh → Outcome
 opening m = answer (openAnswer m T-parameters (coldState (N m)))
 
--- "010000000300010000000000000000000000000000000000000000FB", the head of T when cold, with these last two digits, and the line feed
-unfoldable pub head-with : ℕ → ℕ → List ℕ
-head-with high low = 48 ∷ 49 ∷ replicate 7 48 ++ (51 ∷ 48 ∷ 48 ∷ 48 ∷ 49 ∷ []) ++ replicate 40 48 ++ (high ∷ low ∷ 10 ∷ [])
-
--- "0300040003F6", the end of T, with this last digit of its sequence and this of its check byte, and the line feed
-unfoldable pub end-with : ℕ → ℕ → List ℕ
-end-with sequence check = 48 ∷ 51 ∷ 48 ∷ 48 ∷ 48 ∷ sequence ∷ 48 ∷ 48 ∷ 48 ∷ 51 ∷ 70 ∷ check ∷ 10 ∷ []
-
 -- what loading a text on T answers, with a state of 4N
 abbrev pub loading : List ℕ → Outcome
 loading t = answer (loadAnswer T T-parameters t (coldState 3))
@@ -104,17 +97,17 @@ examples =
     -- 7. "N 4 with triangle 0 1 2: 7, place 3."
     ∷ example (opening (like-T (pos 0 ∷ pos 100 ∷ pos 0 ∷ pos 7 ∷ []) (pos 0 ∷ pos 0 ∷ pos 100 ∷ pos 7 ∷ []) (0 ∷ 1 ∷ 2 ∷ []))) (answer (refused 7 3))
     -- the head and the end of a cold save of T are those shown
-    ∷ example (characters (text (head 3 1 coldClock))) (characters (head-with 70 66))
-    ∷ example (characters (text (end 3))) (characters (end-with 52 54))
+    ∷ example (characters (text (head 3 1 coldClock))) (characters (headWith 70 66))
+    ∷ example (characters (text (end 3))) (characters (endWith 52 54))
     -- 8. "head above sums to 0; with FA it is 21."
-    ∷ example (count (sum (bytes (head-with 70 66)) % 256)) (count 0)
-    ∷ example (loading (head-with 70 65)) (answer (refused 21 0))
+    ∷ example (count (sum (bytes (headWith 70 66)) % 256)) (count 0)
+    ∷ example (loading (headWith 70 65)) (answer (refused 21 0))
     -- 9. "lower-case `fb`: 20."
-    ∷ example (loading (head-with 102 98)) (answer (refused 20 0))
+    ∷ example (loading (headWith 102 98)) (answer (refused 20 0))
     -- 10. "end line with sequence 5 and check F5: 22."
-    ∷ example (loading (linesTo 3 1 (coldState 3) coldClock 4 ++ end-with 53 53)) (answer (refused 22 4))
+    ∷ example (loading (linesTo 3 1 (coldState 3) coldClock 4 ++ endWith 53 53)) (answer (refused 22 4))
     -- with sequence 4 and check F6 it is accepted
-    ∷ example (loading (linesTo 3 1 (coldState 3) coldClock 4 ++ end-with 52 54)) (answer accepted)
+    ∷ example (loading (linesTo 3 1 (coldState 3) coldClock 4 ++ endWith 52 54)) (answer accepted)
     -- 11. "step 4,294,967,294 may step, the next may not."
     ∷ example (stepping 4294967294) (stepped accepted 4294967295)
     ∷ example (stepping 4294967295) (stepped (refused 11 0) 4294967295)

@@ -1,10 +1,10 @@
 -- A run that can be saved stays one: where a step accepts, what it leaves passes rows 10 and 12, as the next step and a save ask them. So does a cold start.
 use Prim.Native.Nat.{ℕ, _+_, _*_, _<_, _≤_}
-use mathlib.Core.Path.{_≡_, refl, sym, ap, subst, _∙_}
-use mathlib.Core.Bool.{Bool, true, false, cond, true≢false}
+use mathlib.Core.Path.{_≡_, refl, ap, subst, _∙_}
+use mathlib.Core.Bool.{Bool, true, false, cond}
 use mathlib.Core.List.{List, [], _∷_}
 use native.Mathlib.Omega.{arith}
-use borrow.Author.Tests.{eqb-true, eq-eqb}
+use borrow.Author.Tests.{eqb-true, eqb-false, eq-eqb}
 use lib.Count.{trailingZeros}
 use lib.Dec.{T, eqb, lit<}
 use lib.IntN.{pos}
@@ -34,14 +34,11 @@ use Rattle.surge.specs.Rows.{row1, row6If, rows1to9}
 use Rattle.limits.specs.Limits.{inBounds, row12Held, row12New}
 use Rattle.surge.specs.State.{inRun, nodeOf, row10, rows1to10, windOf}
 use Rattle.surge.specs.Equations.{Sea, count, node, rise, flowAt, U′, V′, nextState}
-use Rattle.surge.specs.Step.{Given, seaOf, row13Level, speedOf, row13Flow, row13, advance, before13, Rooms, roomy, wentOn, stepsTo, stepOf}
+use Rattle.surge.specs.Step.{Given, seaOf, row13Level, speedOf, row13Flow, row13, advance, before13, Rooms, roomy, StepOut, refusedBefore, refusedBy13, wentOn, stepsTo, stepOf}
 use Rattle.surge.proofs.AcceptedLaws.{accepted, accepted-rooms}
 use Rattle.surge.proofs.StateLaws.{bounds-held}
 
--- ---- a step's outcome, told by the answer that it gives
-clash : {A : Type 0} {b : Bool} → b ≡ true → b ≡ false → A
-clash p q = absurd (true≢false (sym p ∙ q))
-
+-- ---- a step's outcome
 module _ (g : Given) (r : Rooms) where
   -- the answer of rows 1 to 12, and row 13's
   abbrev pub early : Answer
@@ -50,6 +47,19 @@ module _ (g : Given) (r : Rooms) where
   abbrev pub late : Answer
   late = row13 (seaOf g) (g .mesh .kind) (g .forcing)
 
+  -- what holds of each of the three outcomes, where it comes, holds of a step's
+  pub step-cases : (P : StepOut → Type 0) → (early .number ≡ 0 → late .number ≡ 0 → P (wentOn g late))
+      → (early .number ≡ 0 → (late .number ≡ 0 → ⊥) → P (refusedBy13 g r late))
+      → ((early .number ≡ 0 → ⊥) → P (refusedBefore g r early)) → P (stepOf g r)
+  unfolding stepOf stepsTo
+  step-cases P on by13 before = go (eqb (early .number) 0) refl (eqb (late .number) 0) refl
+    where
+      go : (a : Bool) → eqb (early .number) 0 ≡ a → (b : Bool) → eqb (late .number) 0 ≡ b → P (stepOf g r)
+      go true p true q = rw (p, q) (on (eqb-true _ _ p) (eqb-true _ _ q))
+      go true p false q = rw (p, q) (by13 (eqb-true _ _ p) (eqb-false _ _ q))
+      go false p b q = rw p (before (eqb-false _ _ p))
+
+  -- ---- told by the answer that it gives
   -- number 0: both accepted, and the equations' state and clock came back
   pub record WentOn : Type 0 where
     pub first : early .number ≡ 0
@@ -57,23 +67,20 @@ module _ (g : Given) (r : Rooms) where
     pub out : stepOf g r ≡ wentOn g late
 
   pub went-on : eqb (stepOf g r .reply .answer .number) 0 ≡ true → WentOn
-  unfolding stepOf stepsTo
-  went-on e = go (eqb (early .number) 0) refl (eqb (late .number) 0) refl
-    where
-      go : (a : Bool) → eqb (early .number) 0 ≡ a → (b : Bool) → eqb (late .number) 0 ≡ b → WentOn
-      go true p true q = record { first = eqb-true _ _ p; last = eqb-true _ _ q; out = rw (p, q) }
-      go true p false q = clash (rw (p, q) at e) q
-      go false p b q = clash (rw p at e) p
+  went-on =
+      step-cases (λ (o : StepOut). stepOf g r ≡ o → eqb (o .reply .answer .number) 0 ≡ true → WentOn)
+      (λ h k q _. record { first = h; last = k; out = q })
+      (λ _ k _ e. absurd (k (eqb-true _ _ e)))
+      (λ h _ e. absurd (h (eqb-true _ _ e)))
+      refl
 
   -- any other number: the clock came back as it was
   pub stayed : eqb (stepOf g r .reply .answer .number) 0 ≡ false → stepOf g r .reply .clock ≡ g .clock
-  unfolding stepOf stepsTo
-  stayed e = go (eqb (early .number) 0) refl (eqb (late .number) 0) refl
-    where
-      go : (a : Bool) → eqb (early .number) 0 ≡ a → (b : Bool) → eqb (late .number) 0 ≡ b → stepOf g r .reply .clock ≡ g .clock
-      go true p true q = clash q (rw (p, q) at e)
-      go true p false q = rw (p, q)
-      go false p b q = rw p
+  stayed =
+      step-cases (λ (o : StepOut). eqb (o .reply .answer .number) 0 ≡ false → o .reply .clock ≡ g .clock)
+      (λ _ k e. absurd (eqb-false _ _ e k))
+      (λ _ _ _. refl)
+      (λ _ _. refl)
 
 -- ---- what rows 1 to 10 ask of a state
 -- node i of a state of four tables

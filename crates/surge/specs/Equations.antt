@@ -27,11 +27,11 @@ use Rattle.surge.specs.State.{nodeOf, newWind}
 
 -- ---- single values
 
--- "L = (S/6)/dt. New z' = .. At kind 1, z' is the forcing's elevation."
+-- z' with "L = (S/6)/dt."; "At kind 1, z' is the forcing's elevation."
 unfoldable pub riseOf : Parameters → ℕ → Float → Node → ℕ → Float → Float
 riseOf p kind elevation c s r = cond (eqb kind 1) elevation (z′ p (L (ofInt binary64 (pos s)) (p .dt)) (c .z) (z* c) r)
 
--- "U' = .., V' = .. At kind 2 both are +0."
+-- U' and V'; "At kind 2 both are +0."
 unfoldable pub flowOf : Parameters → ℕ → Push → Flow
 flowOf p kind x = cond (eqb kind 2) (record { u = plus0; v = plus0 }) (flow p x)
 
@@ -116,7 +116,7 @@ module _ (s : Sea) where
         let w = across (sidesAt t) in
         slope (both (c .first)) (both (c .second)) (both (c .third)) (w .first) (w .second) (w .third)
 
-    -- "Px starts at +0 and adds .. by ascending triangle; Py with a."
+    -- "Px starts at +0 and adds" the slope of both "by ascending triangle; Py with a."
     unfoldable pub slopeX : ℕ → Three Float
     slopeX t = alike (slopeAt (λ l. record { first = l .b1; second = l .b2; third = l .b3 }) t)
 

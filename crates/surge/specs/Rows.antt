@@ -1,4 +1,4 @@
--- Document 01, "Refusal table", rows 1 to 9, each under its line of the table.
+-- Document 01, "Refusal table", rows 1 to 8, each under its line of the table, and the order of rows 1 to 9. Row 9 is in the crate `limits`.
 use Prim.Native.Nat.{ℕ, _+_, _/_, _%_}
 use mathlib.Core.Bool.{Bool, true, false, _||_, _&&_, not}
 use mathlib.Core.List.{List}

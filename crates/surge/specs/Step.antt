@@ -46,6 +46,7 @@ speedOf v i = answerOf (east (v .u)) i then answerOf (north (v .v)) i
 unfoldable pub row13Flow : Sea → List ℕ → Forcing → ℕ → Answer
 row13Flow s kind f i = speedOf (flowAt s kind f i) i
 
+-- "then 13: all z' first (node by node, size, then H'), then, node by node, U' before V'."
 unfoldable pub row13 : Sea → List ℕ → Forcing → Answer
 row13 s kind f = scan (row13Level s kind f) (count s) then scan (row13Flow s kind f) (count s)
 

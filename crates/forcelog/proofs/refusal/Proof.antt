@@ -4,8 +4,8 @@ use mathlib.Core.List.{List, [], _∷_, _++_}
 use native.Mathlib.Omega.{arith}
 use lib.ListN.{length, take}
 use Rattle.frames.specs.Frames.{lineFeed}
-use Rattle.forcelog.specs.Printed.{refusal, decimal, refusedWord, atWord, words}
-use Rattle.forcelog.proofs.WordLaws.{Held, held-none, held-put, held-words, few-digits, is-decimal}
+use Rattle.forcelog.specs.Printed.{refusal, numeral, refusedWord, atWord, words}
+use Rattle.forcelog.proofs.WordLaws.{Held, held-none, held-put, held-words, few-digits, is-numeral}
 use borrow.Author.Needs.{needs}
 use Rattle.forcelog.proofs.refusal.Statement.{statement}
 use Rattle.forcelog.proofs.refusal.Tie as tie
@@ -20,8 +20,8 @@ small1 c = search needs
 few1 : (c : tie.After-decimal) → length (digits1 c) ≤ 20
 few1 c = omega (arith, c .decimal .ensures .0 .1, few-digits _ _ (small1 c) (c .decimal .ensures .1 .0))
 
-is1 : (c : tie.After-decimal) → digits1 c ≡ decimal (c .before .before .before .args .answer .number)
-is1 c = is-decimal (c .decimal .last .1 .0) (small1 c) (c .decimal .ensures .1 .0) (c .decimal .ensures .1 .1)
+is1 : (c : tie.After-decimal) → digits1 c ≡ numeral (c .before .before .before .args .answer .number)
+is1 c = is-numeral (c .decimal .last .1 .0) (small1 c) (c .decimal .ensures .1 .0) (c .decimal .ensures .1 .1)
 
 abbrev digits2 : tie.After-decimal2 → List ℕ
 digits2 c = take (c .decimal2 .result) (c .decimal2 .last .1 .0)
@@ -32,8 +32,8 @@ small2 c = search needs
 few2 : (c : tie.After-decimal2) → length (digits2 c) ≤ 20
 few2 c = omega (arith, c .decimal2 .ensures .0 .1, few-digits _ _ (small2 c) (c .decimal2 .ensures .1 .0))
 
-is2 : (c : tie.After-decimal2) → digits2 c ≡ decimal (c .before .before .before .before .before .args .answer .place)
-is2 c = is-decimal (c .decimal2 .last .1 .0) (small2 c) (c .decimal2 .ensures .1 .0) (c .decimal2 .ensures .1 .1)
+is2 : (c : tie.After-decimal2) → digits2 c ≡ numeral (c .before .before .before .before .before .args .answer .place)
+is2 c = is-numeral (c .decimal2 .last .1 .0) (small2 c) (c .decimal2 .ensures .1 .0) (c .decimal2 .ensures .1 .1)
 
 abbrev first : tie.After-number2 → tie.After-decimal
 first c = c .before .before .before .before .before .before .before .before

@@ -27,17 +27,6 @@ clear-requires c κs = search needs
 clear-whole-requires : tie.Need-clear-whole-requires
 clear-whole-requires c κs = search needs
 
-same-length : tie.Need-same-length
-same-length c =
-    let j = c .before .before .before .before .before .before .before .before in
-    ⊎-elim (λ w. ap length (w .6) ∙ w .3 .kept .0) (λ w. ap length (w .1)) (j .if1 .came)
-
-same-length-2 : tie.Need-same-length-2
-same-length-2 c = search needs
-
-same-length-3 : tie.Need-same-length-3
-same-length-3 c = search needs
-
 returns : tie.Need-returns
 returns c =
     let j = c .before .before .before .before .before .before .before .before in
@@ -56,6 +45,17 @@ returns c =
         ),
       ),
     )
+
+same-length : tie.Need-same-length
+same-length c =
+    let j = c .before .before .before .before .before .before .before .before in
+    ⊎-elim (λ w. ap length (w .6) ∙ w .3 .kept .0) (λ w. ap length (w .1)) (j .if1 .came)
+
+same-length-2 : tie.Need-same-length-2
+same-length-2 c = search needs
+
+same-length-3 : tie.Need-same-length-3
+same-length-3 c = search needs
 
 pub advance-spec : {M : Type 1} → statement M
 advance-spec =
