@@ -6,8 +6,10 @@ use mathlib.Core.Logic.{⊎-elim}
 use native.Mathlib.Nat.{not-suc-le-zero, le-of-suc-le-suc, eq-or-lt-of-le}
 use native.Mathlib.Numerals.{add-one}
 use native.Mathlib.Omega.{arith}
+use borrow.Author.Tests.{eqb-true}
+use lib.Dec.{eqb}
 use Rattle.lists.specs.declared.rows.Answer.{Answer}
-use Rattle.lists.specs.Scan.{accepted, refused, row, _then_, scan, some}
+use Rattle.lists.specs.Scan.{accepted, refused, row, _then_, scan, clean, some}
 
 -- ---- one row
 pub row-holds : {test : Bool} (number place : ℕ) → test ≡ true → row test number place ≡ accepted
@@ -73,6 +75,35 @@ unfolding scan
 scan-same f g zero h = refl
 scan-same f g (suc n) h = λ i. h 0 (omega arith) i then scan-same (λ k. f (suc k)) (λ k. g (suc k)) n (λ k l. h (suc k) (omega arith)) i
 
+-- ---- tests joined
+pub both-left : (a b : Bool) → (a && b) ≡ true → a ≡ true
+both-left true b e = refl
+both-left false b e = e
+
+pub both-right : (a b : Bool) → (a && b) ≡ true → b ≡ true
+both-right true b e = e
+both-right false true e = refl
+both-right false false e = e
+
+-- ---- every place
+-- one turn of a loop that asks every place
+pub clean-turn : (f : ℕ → Answer) (n : ℕ) {all : Bool} {a : Answer} → all ≡ clean f n → a ≡ f n → (all && eqb (a .number) 0) ≡ clean f (n + 1)
+unfolding clean
+clean-turn f n e h = (λ i. e i && eqb (h i .number) 0) ∙ rw add-one
+
+-- where every place accepts, each does, and so does the scan
+pub clean-each : (f : ℕ → Answer) (n : ℕ) → clean f n ≡ true → (k : ℕ) → k < n → f k .number ≡ 0
+unfolding clean
+clean-each f zero e k l = absurd (not-suc-le-zero l)
+clean-each f (suc n) e k l =
+    ⊎-elim
+    (λ q. ap (λ (j : ℕ). f j .number) q ∙ eqb-true _ _ (both-right (clean f n) _ e))
+    (λ q. clean-each f n (both-left (clean f n) _ e) k q)
+    (eq-or-lt-of-le (le-of-suc-le-suc l))
+
+pub clean-scan : (f : ℕ → Answer) (n : ℕ) → clean f n ≡ true → scan f n ≡ accepted
+clean-scan f n e = scan-none f n (clean-each f n e)
+
 -- ---- some place
 or-true : (b : Bool) → (b || true) ≡ true
 or-true true = refl
@@ -92,16 +123,6 @@ module _ (test : ℕ → Bool) where
   unfolding some
   some-hit zero k l e = absurd (not-suc-le-zero l)
   some-hit (suc n) k l e = ⊎-elim (λ q. rw (← q, e) (or-true (some test k))) (λ q. rw (some-hit n k q e)) (eq-or-lt-of-le (le-of-suc-le-suc l))
-
--- ---- tests joined
-pub both-left : (a b : Bool) → (a && b) ≡ true → a ≡ true
-both-left true b e = refl
-both-left false b e = e
-
-pub both-right : (a b : Bool) → (a && b) ≡ true → b ≡ true
-both-right true b e = e
-both-right false true e = refl
-both-right false false e = e
 
 -- ---- a call's answer and the definition that it meets
 pub same-number : {a b : Answer} → a ≡ b → a .number ≡ 0 → b .number ≡ 0

@@ -1,6 +1,7 @@
 -- Document 01, "Refusal table": what a row answers, rows in order, and the first place at which a row refuses.
 use Prim.Native.Nat.{ℕ, zero, suc}
 use mathlib.Core.Bool.{Bool, true, false, _||_, _&&_}
+use lib.Dec.{eqb}
 use lib.IntN.{pos}
 use lib.Ieee.{Float, fin, binary64, round, le}
 use Rattle.lists.specs.declared.rows.Answer.{Answer}
@@ -34,6 +35,11 @@ a then b = unless (a .number)
 unfoldable pub scan : (ℕ → Answer) → ℕ → Answer
 scan f zero = accepted
 scan f (suc n) = f zero then scan (λ k. f (suc k)) n
+
+-- whether every one of n places accepts
+unfoldable pub clean : (ℕ → Answer) → ℕ → Bool
+clean f zero = true
+clean f (suc n) = clean f n && eqb (f n .number) 0
 
 -- some place below n passes a test
 unfoldable pub some : (ℕ → Bool) → ℕ → Bool

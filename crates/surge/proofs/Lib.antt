@@ -5,7 +5,6 @@ pub mod AcceptedLaws
 pub mod OpenLaws
 pub mod StateLaws
 pub mod PassLaws
-pub mod NodeLaws
 pub mod RoomLaws
 pub mod SolveLaws
 pub mod StepLaws

@@ -20,11 +20,11 @@ use Rattle.equations.specs.Operations.{_⊕_}
 use Rattle.equations.specs.Elevation.{slope}
 use Rattle.surge.specs.Lent.{corners}
 use Rattle.surge.specs.State.{inRun, newWind}
-use Rattle.surge.specs.Equations.{count, triangles, node, floating, sidesAt, R, Sums, riseOf, rise, both, slopeX, slopeY, Px, Py, flowOf, pushOf, flowAt, nextState}
+use Rattle.surge.specs.Equations.{count, triangles, node, floating, sidesAt, R, Sums, riseOf, rise, both, slopeX, slopeY, Px, Py, flowOf, pushOf, flowAt, U′, V′, nextState}
 use Rattle.surge.specs.Step.{speedOf, row13Level, row13Flow}
-use Rattle.surge.specs.Passes.{Rising, rising, RisingFits, riseIn, levelIn, Sloping, sloping, SlopingFits, bothOf, slopeOf, slopeIn, PxIn, PyIn, slopeRoom, Moving, moving, MovingFits, flowIn, speedIn, flowRoom, Solving, SolvingFits, risenRoom, solvedRoom}
+use Rattle.surge.specs.Passes.{Rising, rising, RisingFits, riseIn, heightAt, levelIn, Sloping, sloping, SlopingFits, bothOf, slopeOf, slopeIn, PxIn, PyIn, slopeRoom, Moving, moving, MovingFits, flowIn, speedAt, speedIn, flowRoom, Solving, SolvingFits, risenRoom, solvedRoom}
 use Rattle.surge.proofs.PassLaws.{S-small, corners-below}
-use Rattle.surge.proofs.RoomLaws.{three-length, run-first, run-second, run-third}
+use Rattle.surge.proofs.RoomLaws.{three-length, run-first, run-second, run-third, read-second, read-third}
 
 module _ (v : Solving) (z : SolvingFits v) where
   -- ---- from R and S to z'
@@ -54,6 +54,13 @@ module _ (v : Solving) (z : SolvingFits v) where
 
   pub all-level : scan (levelIn risen) (count (v .sea)) ≡ scan (row13Level (v .sea) (v .kind) (v .f)) (count (v .sea))
   all-level = scan-same _ _ (count (v .sea)) its-level
+
+  -- the same row, asked of the z' that stand in the room
+  pub all-height : scan (heightAt (v .sea .h) (table (count (v .sea)) (rise (v .sea) (v .kind) (v .f)))) (count (v .sea)) ≡ scan (row13Level (v .sea) (v .kind) (v .f)) (count (v .sea))
+  unfolding heightAt row13Level
+  all-height =
+      scan-same _ _ (count (v .sea)) (λ i h.
+      ap (λ (x : Float). answerOf (level (node (v .sea) i .h) x) i) (getD-table (count (v .sea)) (rise (v .sea) (v .kind) (v .f)) i nan h))
 
   -- ---- from z' to Px and Py
   abbrev pub sloped : Sloping
@@ -198,6 +205,23 @@ module _ (v : Solving) (z : SolvingFits v) where
       let u = full (λ i. flowIn moved i .u) (Px s (v .kind) (v .f)) ∙ table-same n _ _ (λ i h. ap (λ (f : Flow). f .u) (its-flow i h)) in
       let w = full (λ i. flowIn moved i .v) (Py s (v .kind) (v .f)) ∙ table-same n _ _ (λ i h. ap (λ (f : Flow). f .v) (its-flow i h)) in
       λ j. room (table n (rise s (v .kind) (v .f)) ∷ u j ∷ w j ∷ [])
+
+  -- row 13 of the U' and V' that the room then holds
+  its-speed-read : (i : ℕ) → i < count (v .sea) → speedAt (count (v .sea)) (solvedRoom v) i ≡ row13Flow (v .sea) (v .kind) (v .f) i
+  unfolding speedAt row13Flow
+  its-speed-read i h =
+      let s = v .sea in
+      let n = count s in
+      let a = table n (rise s (v .kind) (v .f)) in
+      let b = table n (U′ s (v .kind) (v .f)) in
+      let c = table n (V′ s (v .kind) (v .f)) in
+      λ j. speedOf (record {
+        u = (read-second n a b c (length-table _ _) (length-table _ _) (length-table _ _) i nan h ∙ getD-table n (U′ s (v .kind) (v .f)) i nan h) j;
+        v = (read-third n a b c (length-table _ _) (length-table _ _) (length-table _ _) i nan h ∙ getD-table n (V′ s (v .kind) (v .f)) i nan h) j;
+      }) i
+
+  pub all-speed-read : scan (speedAt (count (v .sea)) (solvedRoom v)) (count (v .sea)) ≡ scan (row13Flow (v .sea) (v .kind) (v .f)) (count (v .sea))
+  all-speed-read = scan-same _ _ (count (v .sea)) its-speed-read
 
   -- ---- the next state
   z-run : run (count (v .sea)) 1 (v .sea .state) ≡ table (count (v .sea)) (λ i. node (v .sea) i .z)

@@ -1,4 +1,4 @@
--- What row 10 comes to, as the loop that tests it has it, and what is known where rows 1 to 10 accept.
+-- What row 10 comes to, and what is known where rows 1 to 10 accept.
 use Prim.Native.Nat.{ℕ, _*_, _<_}
 use mathlib.Core.Path.{_≡_, ap}
 use mathlib.Core.Bool.{Bool, true, false, _&&_}
@@ -8,8 +8,7 @@ use lib.ListN.{length}
 use lib.Ieee.{Float}
 use Rattle.lists.specs.declared.rows.Answer.{Answer}
 use Rattle.lists.specs.Runs.{isRuns}
-use Rattle.lists.specs.Scan.{refused}
-use Rattle.lists.proofs.ScanLaws.{row-holds, row-fails, then-first, then-rest, scan-clean, both-left, both-right}
+use Rattle.lists.proofs.ScanLaws.{row-holds, then-first, then-rest, scan-clean, both-left, both-right}
 use Rattle.equations.specs.declared.Parameters.{Parameters}
 use Rattle.limits.specs.Limits.{inBounds}
 use Rattle.surge.specs.Lent.{Mesh, N}
@@ -22,10 +21,6 @@ module _ (h state : List Float) (i : ℕ) where
   pub bounds-held : inBounds (nodeOf h state i) ≡ true → row10 h state i .number ≡ 0
   unfolding row10
   bounds-held e = ap (λ (a : Answer). a .number) (row-holds 10 i e)
-
-  pub bounds-failed : inBounds (nodeOf h state i) ≡ false → row10 h state i ≡ refused 10 i
-  unfolding row10
-  bounds-failed e = row-fails 10 i e
 
 -- ---- what is known where rows 1 to 10 accept a run: what a step and a save go on with
 module _ (rooms : Bool) (m : Mesh) (p : Parameters) (state : List Float) where

@@ -1,5 +1,5 @@
 -- What the passes of a step ask and give, for the contracts of the private functions that make them. The step's own contract cites none of it.
-use Prim.Native.Nat.{ℕ, _*_, _/_, _^_, _<_, _≤_}
+use Prim.Native.Nat.{ℕ, _+_, _*_, _/_, _^_, _<_, _≤_}
 use mathlib.Core.Path.{_≡_}
 use mathlib.Core.List.{List, [], _∷_}
 use lib.IntN.{ℤ}
@@ -49,6 +49,10 @@ rising p elevation kind h state sums r = record { p = p; elevation = elevation; 
 
 unfoldable pub riseIn : Rising → ℕ → Float
 riseIn w i = riseOf (w .p) (getD (w .kind) i 0) (w .elevation) (nodeOf (w .h) (w .state) i) (getD (w .sums) i 0) (getD (w .r) i nan)
+
+-- row 13 of node i, whose z' stands in a list
+unfoldable pub heightAt : List Float → List Float → ℕ → Answer
+heightAt h z i = answerOf (level (getD h i nan) (getD z i nan)) i
 
 unfoldable pub levelIn : Rising → ℕ → Answer
 levelIn w i = answerOf (level (getD (w .h) i nan) (riseIn w i)) i
@@ -121,6 +125,10 @@ unfoldable pub flowIn : Moving → ℕ → Flow
 flowIn w i =
     flowOf (w .p) (getD (w .kind) i 0)
     (pushOf (nodeOf (w .h) (w .state) i) (w .wind) (w .new) (getD (w .sums) i 0) (getD (w .rise) i nan) (getD (w .px) i nan) (getD (w .py) i nan))
+
+-- row 13 of node i, of n, whose U' and V' stand in the second and the third run of the work room
+unfoldable pub speedAt : ℕ → List Float → ℕ → Answer
+speedAt n work i = speedOf (record { u = getD work (n + i) nan; v = getD work (2 * n + i) nan }) i
 
 unfoldable pub speedIn : Moving → ℕ → Answer
 speedIn w i = speedOf (flowIn w i) i

@@ -6,7 +6,6 @@ use super::super::mesh::geometry::WholeSides;
 use super::state;
 use super::sums;
 use equations::Node;
-use equations::Outcome;
 use equations::Parameters;
 use equations::Shares;
 use equations::Wind;
@@ -22,14 +21,14 @@ ghost use lib.ListN.{length, getD};
 ghost use lib.IntN.{natAbs, pos};
 ghost use lib.Ieee.{nan};
 ghost use Rattle.lists.specs.Table.{table, zeros};
-ghost use Rattle.lists.specs.Scan.{scan};
+ghost use Rattle.lists.specs.Scan.{scan, clean};
 ghost use Rattle.lists.specs.Gather.{Below};
 ghost use Rattle.equations.specs.Elevation.{shares};
-ghost use Rattle.equations.specs.Outcomes.{level};
+ghost use Rattle.equations.specs.Outcomes.{level, answerOf};
 ghost use Rattle.surge.specs.Geometry.{nodesOf, D, allNear, floats};
 ghost use Rattle.surge.specs.State.{nodeOf};
 ghost use Rattle.surge.specs.Equations.{Sea, sea, count, R, Sums, rise, riseOf};
-ghost use Rattle.surge.specs.Passes.{Ready, Rising, rising, RisingFits, riseIn, levelIn, Solving, solving, SolvingFits, risenRoom};
+ghost use Rattle.surge.specs.Passes.{Ready, Rising, rising, RisingFits, riseIn, heightAt, levelIn, Solving, solving, SolvingFits, risenRoom};
 ghost use Rattle.surge.specs.Step.{row13Level};
 
 // D of a triangle that rows 4 and 5 accept, as a count.
@@ -79,38 +78,24 @@ fn assemble(
     }
 }
 
-// z' of a node, from its sums S and R.
+// z' of a node, from its sums S and R. An open node's is chosen last, so that all nodes go one way.
 fn rise_of(p: Parameters, kind: u8, elevation: f64, c: Node, s: u64, r: f64) -> f64
     requires { ⌜ s ≤ 2 ^ 53 ⌝ }
     ensures { λ z. ⌜ z ≡ riseOf p kind elevation c s r ⌝ }
 {
-    if kind == 1 {
-        return elevation;
-    }
     let l = elevation::lumped(geometry::exact_sum(s), p.dt);
-    elevation::risen(p, l, c.z, c.z - c.earlier, r)
+    let risen = elevation::risen(p, l, c.z, c.z - c.earlier, r);
+    if kind == 1 { elevation } else { risen }
 }
 
-// What becomes of node i, whose sum R is r.
-fn outcome_at(
-    p: Parameters,
-    elevation: f64,
-    kind: &[u8],
-    h: &[f64],
-    state: &[f64],
-    sums: &[u64],
-    r: f64,
-    i: usize,
-) -> Outcome
-    requires { ⌜ (i < length (now h)) × (length (now state) ≡ 4 * length (now h)) × (length (now kind) ≡ length (now h)) ⌝ }
-    requires { ⌜ (length (now sums) ≡ length (now h)) × (getD (now sums) i 0 ≤ 2 ^ 53) ⌝ }
-    ensures { λ o. ⌜ o ≡ level (getD (now (h .entry)) i nan) (riseOf p (getD (now (kind .entry)) i 0) elevation (nodeOf (now (h .entry)) (now (state .entry)) i) (getD (now (sums .entry)) i 0) r) ⌝ }
+// Row 13 of a node's z'.
+fn height(h: f64, z: f64, i: usize) -> Answer
+    ensures { λ a. ⌜ a ≡ answerOf (level h z) i ⌝ }
 {
-    let c = state::node_of(h, state, i);
-    outcomes::level(c.h, rise_of(p, kind[i], elevation, c, sums[i], r))
+    outcomes::answer(outcomes::level(h, z), i)
 }
 
-// R of every node becomes its z', up to the first node that row 13 refuses.
+// R of every node becomes its z'; whether row 13 accepts every one. Nothing leaves the loop, so that it can be made in wide registers.
 fn rises(
     r: &mut [f64],
     p: Parameters,
@@ -119,19 +104,32 @@ fn rises(
     h: &[f64],
     state: &[f64],
     sums: &[u64],
-) -> Answer
+) -> bool
     ghost { Rising }
     requires { λ w. ⌜ rising p elevation (now kind) (now h) (now state) (now sums) (now r) ≡ w ⌝ }
     requires { λ w. ⌜ RisingFits w ⌝ }
-    ensures { λ w a. ⌜ a ≡ scan (levelIn w) (length (w .h)) ⌝ }
-    ensures { λ w a. ⌜ (a .number ≡ 0 → now (r .exit) ≡ table (length (w .h)) (riseIn w)) ⌝ }
+    ensures { λ w all. ⌜ all ≡ clean (levelIn w) (length (w .h)) ⌝ }
+    ensures { λ w all. ⌜ now (r .exit) ≡ table (length (w .h)) (riseIn w) ⌝ }
+{
+    let mut all = true;
+    for i in 0..h.len() {
+        let c = state::node_of(h, state, i);
+        let z = rise_of(p, kind[i], elevation, c, sums[i], r[i]);
+        r[i] = z;
+        all = all & (height(c.h, z, i).number == 0);
+    }
+    all
+}
+
+// Row 13: the first z' that is out of range.
+fn heights(h: &[f64], z: &[f64]) -> Answer
+    requires { ⌜ length (now z) ≡ length (now h) ⌝ }
+    ensures { λ a. ⌜ a ≡ scan (heightAt (now (h .entry)) (now (z .entry))) (length (now (h .entry))) ⌝ }
 {
     for i in 0..h.len() {
-        let o = outcome_at(p, elevation, kind, h, state, sums, r[i], i);
-        if let Outcome::Accepted(z) = o {
-            r[i] = z;
-        } else {
-            return outcomes::answer(o, i);
+        let answer = height(h[i], z[i], i);
+        if answer.number != 0 {
+            return answer;
         }
     }
     rows::accept()
@@ -157,10 +155,13 @@ fn raise(
     requires { λ v. ⌜ (now r ≡ zeros (count (v .sea))) × (now sums ≡ table (count (v .sea)) (λ _. 0)) ⌝ }
     ensures { λ v a. ⌜ a ≡ scan (row13Level (v .sea) (v .kind) (v .f)) (count (v .sea)) ⌝ }
     ensures { λ v a. ⌜ now (sums .exit) ≡ table (count (v .sea)) (Sums (v .sea)) ⌝ }
-    ensures { λ v a. ⌜ (a .number ≡ 0 → now (r .exit) ≡ table (count (v .sea)) (rise (v .sea) (v .kind) (v .f))) ⌝ }
+    ensures { λ v a. ⌜ now (r .exit) ≡ table (count (v .sea)) (rise (v .sea) (v .kind) (v .f)) ⌝ }
 {
     assemble(r, sums, p, w, x, y, tri, h, state);
-    rises(r, p, f.elevation, kind, h, state, sums)
+    if rises(r, p, f.elevation, kind, h, state, sums) {
+        return rows::accept();
+    }
+    heights(h, r)
 }
 
 // z' of every node in the first run of the work room, and S in the sums.
@@ -183,7 +184,7 @@ pub(crate) fn levels(
     requires { λ v. ⌜ (length (now work) ≡ 3 * count (v .sea)) × (length (now sums) ≡ count (v .sea)) ⌝ }
     ensures { λ v a. ⌜ a ≡ scan (row13Level (v .sea) (v .kind) (v .f)) (count (v .sea)) ⌝ }
     ensures { λ v a. ⌜ now (sums .exit) ≡ table (count (v .sea)) (Sums (v .sea)) ⌝ }
-    ensures { λ v a. ⌜ (a .number ≡ 0 → now (work .exit) ≡ risenRoom v) ⌝ }
+    ensures { λ v a. ⌜ now (work .exit) ≡ risenRoom v ⌝ }
 {
     let n = h.len();
     slices::clear(work);

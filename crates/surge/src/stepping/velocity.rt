@@ -22,13 +22,13 @@ ghost use lib.ListN.{length, getD, set};
 ghost use lib.Ieee.{nan};
 ghost use Rattle.lists.specs.Table.{table};
 ghost use Rattle.lists.specs.Runs.{run, room};
-ghost use Rattle.lists.specs.Scan.{scan};
+ghost use Rattle.lists.specs.Scan.{scan, clean};
 ghost use Rattle.lists.specs.Gather.{Below, alike, spread};
 ghost use Rattle.surge.specs.Geometry.{nodesOf};
 ghost use Rattle.surge.specs.State.{nodeOf};
 ghost use Rattle.surge.specs.Equations.{sea, count, Sums, floating, threeOf, flowOf, pushOf};
 ghost use Rattle.surge.specs.Step.{speedOf, row13Flow};
-ghost use Rattle.surge.specs.Passes.{bothOf, slopeOf, Sloping, sloping, SlopingFits, slopeRoom, Moving, moving, MovingFits, flowRoom, speedIn, Solving, solving, SolvingFits, risenRoom, solvedRoom};
+ghost use Rattle.surge.specs.Passes.{bothOf, slopeOf, Sloping, sloping, SlopingFits, slopeRoom, Moving, moving, MovingFits, flowRoom, speedAt, speedIn, Solving, solving, SolvingFits, risenRoom, solvedRoom};
 
 // What a triangle adds to Px and to Py of its corners.
 pub struct Slope {
@@ -96,7 +96,7 @@ fn slopes(work: &mut [f64], x: &[i32], y: &[i32], tri: &[u16], state: &[f64])
     }
 }
 
-// U' and V' of a node, from its z', Px and Py.
+// U' and V' of a node, from its z', Px and Py. A held land node's are chosen last, so that all nodes go one way.
 fn flow_at(
     p: Parameters,
     w: Wind,
@@ -114,9 +114,6 @@ fn flow_at(
     requires { ⌜ (length (now sums) ≡ length (now h)) × (getD (now sums) i 0 ≤ 2 ^ 53) ⌝ }
     ensures { λ r. ⌜ r ≡ flowOf p (getD (now (kind .entry)) i 0) (pushOf (nodeOf (now (h .entry)) (now (state .entry)) i) w new (getD (now (sums .entry)) i 0) rise px py) ⌝ }
 {
-    if kind[i] == 2 {
-        return Flow { u: 0.0, v: 0.0 };
-    }
     let c = state::node_of(h, state, i);
     let s = geometry::exact_sum(sums[i]);
     let x = Push {
@@ -133,7 +130,12 @@ fn flow_at(
         wx_new: new.x,
         wy_new: new.y,
     };
-    velocity::flow(p, x)
+    let free = velocity::flow(p, x);
+    let held = kind[i] == 2;
+    Flow {
+        u: if held { 0.0 } else { free.u },
+        v: if held { 0.0 } else { free.v },
+    }
 }
 
 // Row 13 of a node's U' and V'.
@@ -154,7 +156,7 @@ fn write_flow(work: &mut [f64], n: usize, i: usize, f: Flow)
     work[2 * n + i] = f.v;
 }
 
-// Px and Py of every node become its U' and V', up to the first node that row 13 refuses.
+// Px and Py of every node become its U' and V'; whether row 13 accepts every one. Nothing leaves the loop, so that it can be made in wide registers.
 fn flows(
     work: &mut [f64],
     p: Parameters,
@@ -164,15 +166,16 @@ fn flows(
     h: &[f64],
     state: &[f64],
     sums: &[u64],
-) -> Answer
+) -> bool
     ghost { Moving }
     requires { λ v. ⌜ moving p w new (now kind) (now h) (now state) (now sums) (now work) ≡ v ⌝ }
     requires { λ v. ⌜ MovingFits v ⌝ }
     requires { λ v. ⌜ length (now work) ≡ 3 * length (v .h) ⌝ }
-    ensures { λ v a. ⌜ a ≡ scan (speedIn v) (length (v .h)) ⌝ }
-    ensures { λ v a. ⌜ (a .number ≡ 0 → now (work .exit) ≡ flowRoom v (length (v .h))) ⌝ }
+    ensures { λ v all. ⌜ all ≡ clean (speedIn v) (length (v .h)) ⌝ }
+    ensures { λ v all. ⌜ now (work .exit) ≡ flowRoom v (length (v .h)) ⌝ }
 {
     let n = h.len();
+    let mut all = true;
     for i in 0..n {
         let f = flow_at(
             p,
@@ -187,11 +190,26 @@ fn flows(
             work[2 * n + i],
             i,
         );
+        write_flow(work, n, i, f);
+        all = all & (speed(f, i).number == 0);
+    }
+    all
+}
+
+// Row 13: the first U' or V' that is out of range.
+fn speeds(work: &[f64], n: usize) -> Answer
+    requires { ⌜ length (now work) ≡ 3 * n ⌝ }
+    ensures { λ a. ⌜ a ≡ scan (speedAt n (now (work .entry))) n ⌝ }
+{
+    for i in 0..n {
+        let f = Flow {
+            u: work[n + i],
+            v: work[2 * n + i],
+        };
         let answer = speed(f, i);
         if answer.number != 0 {
             return answer;
         }
-        write_flow(work, n, i, f);
     }
     rows::accept()
 }
@@ -215,9 +233,12 @@ pub(crate) fn velocities(
     requires { λ v. ⌜ SolvingFits v ⌝ }
     requires { λ v. ⌜ (now work ≡ risenRoom v) × (now sums ≡ table (count (v .sea)) (Sums (v .sea))) ⌝ }
     ensures { λ v a. ⌜ a ≡ scan (row13Flow (v .sea) (v .kind) (v .f)) (count (v .sea)) ⌝ }
-    ensures { λ v a. ⌜ (a .number ≡ 0 → now (work .exit) ≡ solvedRoom v) ⌝ }
+    ensures { λ v a. ⌜ now (work .exit) ≡ solvedRoom v ⌝ }
 {
     slopes(work, x, y, tri, state);
     let new = Wind { x: f.wx, y: f.wy };
-    flows(work, p, w, new, kind, h, state, sums)
+    if flows(work, p, w, new, kind, h, state, sums) {
+        return rows::accept();
+    }
+    speeds(work, h.len())
 }

@@ -19,9 +19,8 @@ returns c = let l = c .before .before .before .before .before .before in (stops 
 
 velocities-requires : tie.Need-velocities-requires
 velocities-requires c κs =
-    let e = c .before .before in
-    let l = e .before .before .before .before .before .before in
-    (l .before .before .before .before .before .before .before .before .before .pre .0, (l .levels .ensures .1 .1 (e .if1 .left), l .levels .ensures .1 .0))
+    let l = c .before .before .before .before .before .before .before .before in
+    (l .before .before .before .before .before .before .before .before .before .pre .0, (l .levels .ensures .1 .1, l .levels .ensures .1 .0))
 
 same-length-3 : tie.Need-same-length-3
 same-length-3 c = search needs
@@ -35,7 +34,7 @@ returns-2 c =
     let v = c .before .before in
     let e = v .before .before .before in
     let l = e .before .before .before .before .before .before in
-    (goes _ (same-number (l .levels .ensures .0) (e .if1 .left)) (v .velocities .ensures .0), v .velocities .ensures .1)
+    (goes _ (same-number (l .levels .ensures .0) (e .if1 .left)) (v .velocities .ensures .0), λ _. v .velocities .ensures .1)
 
 pub solve-spec : {M : Type 1} → statement M
 solve-spec =

@@ -1,11 +1,9 @@
 use Prim.Native.Nat.{ℕ, _-_, _≤_, _<_}
-use mathlib.Core.Path.{_≡_, sym, ap, _∙_}
-use mathlib.Core.Bool.{Bool}
+use mathlib.Core.Path.{_≡_, sym, _∙_}
 use native.Mathlib.Omega.{arith}
 use borrow.Author.Count.{below-none, below-more}
 use borrow.Author.Needs.{needs}
-use Rattle.lists.specs.Scan.{row}
-use Rattle.lists.proofs.ScanLaws.{scan-none, scan-hit, same-number, other-number}
+use Rattle.lists.proofs.ScanLaws.{scan-none, scan-hit, clean-scan, same-number, other-number}
 use Rattle.surge.specs.Rows.{row8}
 use Rattle.surge.proofs.mesh.nodes.depths.Statement.{statement}
 use Rattle.surge.proofs.mesh.nodes.depths.Tie as tie
@@ -17,35 +15,27 @@ Inv-loop h kind i₀ i-end i = (i ≤ i-end) × ((k : ℕ) → k < i → row8 h 
 abbrev μ-loop : tie.MeasureT-loop
 μ-loop h kind i₀ i-end i = i-end - i
 
-loop-holds : tie.Need-loop-holds Inv-loop μ-loop
-loop-holds c = (search needs, below-none _)
+all-depths-requires : tie.Need-all-depths-requires Inv-loop μ-loop
+all-depths-requires c κs = search needs
 
-mul-is-sound : tie.Need-mul-is-sound Inv-loop μ-loop
-mul-is-sound c = search needs
-
-shared-slice-read-is-sound : tie.Need-shared-slice-read-is-sound Inv-loop μ-loop
-shared-slice-read-is-sound c = search needs
-
-shared-slice-read-is-sound-2 : tie.Need-shared-slice-read-is-sound-2 Inv-loop μ-loop
-shared-slice-read-is-sound-2 c = search needs
-
-is-sound-requires : tie.Need-is-sound-requires Inv-loop μ-loop
-is-sound-requires c κs = search needs
-
-tested-requires : tie.Need-tested-requires Inv-loop μ-loop
-tested-requires c κs = search needs
-
--- the answer is row 8 of this node
-answered : (c : tie.After-tested Inv-loop μ-loop) → let l = c .before .before .before .before .before in let a = l .before .before .before .args in
-    c .tested .result ≡ row8 (a .h .now) (a .kind .now) (l .loop .i)
-unfolding row8
-answered c = c .tested .ensures ∙ ap (λ (b : Bool). row b 8 (c .before .before .before .before .before .loop .i)) (c .before .is-sound .ensures)
+accept-requires : tie.Need-accept-requires Inv-loop μ-loop
+accept-requires c κs = search needs
 
 returns : tie.Need-returns Inv-loop μ-loop
 returns c =
     let t = c .before .before in
-    let l = t .before .before .before .before .before in
-    answered t ∙ sym (scan-hit _ _ _ (t .before .before .before .before .loop-test .taken) (l .loop .inv .1) (other-number (answered t) (c .if1 .taken)))
+    c .accept .ensures ∙ sym (clean-scan _ _ (sym (t .all-depths .ensures) ∙ c .before .if1 .taken))
+
+loop-holds : tie.Need-loop-holds Inv-loop μ-loop
+loop-holds c = (search needs, below-none _)
+
+depth-requires : tie.Need-depth-requires Inv-loop μ-loop
+depth-requires c κs = search needs
+
+returns-2 : tie.Need-returns-2 Inv-loop μ-loop
+returns-2 c =
+    let t = c .before .before in
+    t .depth .ensures ∙ sym (scan-hit _ _ _ (t .before .loop-test .taken) (t .before .before .loop .inv .1) (other-number (t .depth .ensures) (c .if2 .taken)))
 
 add-i : tie.Need-add-i Inv-loop μ-loop
 add-i c = search needs
@@ -56,13 +46,13 @@ loop-less c = search needs
 loop-again : tie.Need-loop-again Inv-loop μ-loop
 loop-again c =
     let t = c .before .before in
-    (search needs, below-more _ _ (t .before .before .before .before .before .loop .inv .1) (same-number (answered t) (c .if1 .left)))
+    (search needs, below-more _ _ (t .before .before .loop .inv .1) (same-number (t .depth .ensures) (c .if2 .left)))
 
-accept-requires : tie.Need-accept-requires Inv-loop μ-loop
-accept-requires c κs = search needs
+accept-requires-2 : tie.Need-accept-requires-2 Inv-loop μ-loop
+accept-requires-2 c κs = search needs
 
-returns-2 : tie.Need-returns-2 Inv-loop μ-loop
-returns-2 c = c .accept .ensures ∙ sym (scan-none _ _ (λ k h. c .before .before .loop .inv .1 k (omega arith)))
+returns-3 : tie.Need-returns-3 Inv-loop μ-loop
+returns-3 c = c .accept2 .ensures ∙ sym (scan-none _ _ (λ k h. c .before .before .loop .inv .1 k (omega arith)))
 
 pub depths-spec : {M : Type 1} → statement M
 depths-spec =
@@ -70,15 +60,14 @@ depths-spec =
     (tie.spec
     Inv-loop
     μ-loop
-    loop-holds
-    mul-is-sound
-    shared-slice-read-is-sound
-    shared-slice-read-is-sound-2
-    is-sound-requires
-    tested-requires
+    all-depths-requires
+    accept-requires
     returns
+    loop-holds
+    depth-requires
+    returns-2
     add-i
     loop-less
     loop-again
-    accept-requires
-    returns-2)
+    accept-requires-2
+    returns-3)

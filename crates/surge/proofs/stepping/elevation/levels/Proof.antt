@@ -68,8 +68,8 @@ returns c =
       r .raise .ensures .0,
       (
         r .raise .ensures .1 .0,
-        λ q. front-put (count (its s .sea)) _ (wiped k) (wide k) (r .raise .last .0)
-            ∙ ap (λ (l : List Float). room (l ∷ zeros (count (its s .sea)) ∷ zeros (count (its s .sea)) ∷ [])) (r .raise .ensures .1 .1 q),
+        front-put (count (its s .sea)) _ (wiped k) (wide k) (r .raise .last .0)
+            ∙ ap (λ (l : List Float). room (l ∷ zeros (count (its s .sea)) ∷ zeros (count (its s .sea)) ∷ [])) (r .raise .ensures .1 .1),
       ),
     )
 

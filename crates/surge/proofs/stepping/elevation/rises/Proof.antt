@@ -1,31 +1,29 @@
 use Prim.Native.Nat.{ℕ, _-_, _≤_, _<_}
-use mathlib.Core.Path.{_≡_, sym, ap, _∙_}
+use mathlib.Core.Path.{_≡_, refl, sym, ap, _∙_}
 use mathlib.Core.List.{List}
 use native.Mathlib.Omega.{arith}
-use borrow.Author.Count.{below-none, below-more}
-use lib.ListN.{length, getD, set}
+use borrow.Author.Needs.{needs}
+use lib.ListN.{length, getD, set, length-set}
 use lib.Ieee.{Float, nan}
 use Rattle.lists.specs.Table.{table, upTo}
+use Rattle.lists.specs.Scan.{clean}
 use Rattle.lists.proofs.TableLaws.{up-none, up-more, up-length, up-ahead, up-all}
-use Rattle.lists.proofs.ScanLaws.{scan-none, scan-hit, same-number, other-number}
-use Rattle.equations.specs.declared.Outcome.{Outcome}
+use Rattle.lists.proofs.ScanLaws.{clean-turn}
 use Rattle.equations.specs.Outcomes.{level, answerOf}
-use Rattle.equations.proofs.OutcomeLaws.{accepted-level}
+use Rattle.equations.specs.declared.Node.{Node}
 use Rattle.surge.specs.State.{nodeOf}
 use Rattle.surge.specs.Equations.{riseOf}
 use Rattle.surge.specs.Passes.{Rising, rising, RisingFits, riseIn, levelIn}
-use Rattle.surge.proofs.NodeLaws.{passes, refuses}
-use borrow.Author.Needs.{needs}
 use Rattle.surge.proofs.stepping.elevation.rises.Statement.{statement}
 use Rattle.surge.proofs.stepping.elevation.rises.Tie as tie
 
 abbrev Inv-loop : tie.InvT-loop
-Inv-loop r₀ p elevation kind h state sums i₀ i-end r i =
+Inv-loop r₀ p elevation kind h state sums all₀ i₀ i-end r all i =
     let w = rising p elevation kind h state sums r₀ in
-    (i ≤ i-end) × ((r ≡ upTo i (riseIn w) r₀) × ((k : ℕ) → k < i → levelIn w k .number ≡ 0))
+    (i ≤ i-end) × ((r ≡ upTo i (riseIn w) r₀) × (all ≡ clean (levelIn w) i))
 
 abbrev μ-loop : tie.MeasureT-loop
-μ-loop r₀ p elevation kind h state sums i₀ i-end r i = i-end - i
+μ-loop r₀ p elevation kind h state sums all₀ i₀ i-end r all i = i-end - i
 
 abbrev start : tie.At-loop Inv-loop μ-loop → tie.Start Inv-loop μ-loop
 start l = l .before .before .before .before .before .before
@@ -42,40 +40,48 @@ long l = ap length (l .loop .inv .1 .0) ∙ up-length _ _ _ (omega (arith, fits 
 inside : (c : tie.In-loop Inv-loop μ-loop) → c .before .loop .i < length (c .before .loop .r)
 inside c = omega (arith, long (c .before), fits (c .before) .r)
 
--- the outcome that the call finds is node i's
-found : (c : tie.After-outcome-at Inv-loop μ-loop) → let l = c .before .before .before in c .outcome-at .result ≡ level (getD (from l .h) (l .loop .i) nan) (riseIn (from l) (l .loop .i))
+-- what the call finds is node i's z', and row 13 of it
+found : (c : tie.After-rise-of Inv-loop μ-loop) → let l = c .before .before .before .before .before .before in c .rise-of .result ≡ riseIn (from l) (l .loop .i)
 unfolding riseIn
 found c =
-    let l = c .before .before .before in
+    let l = c .before .before .before .before .before .before in
     let w = from l in
     let i = l .loop .i in
-    let here : i ≤ length (w .r) = omega (arith, fits l .r) in
     let read : getD (l .loop .r) i nan ≡ getD (w .r) i nan =
-    ap (λ (m : List Float). getD m i nan) (l .loop .inv .1 .0) ∙ up-ahead i (riseIn w) (w .r) i nan (omega arith) here in
-    c .outcome-at .ensures
-    ∙ ap (λ (v : Float). level (getD (w .h) i nan) (riseOf (w .p) (getD (w .kind) i 0) (w .elevation) (nodeOf (w .h) (w .state) i) (getD (w .sums) i 0) v)) read
+    ap (λ (m : List Float). getD m i nan) (l .loop .inv .1 .0) ∙ up-ahead i (riseIn w) (w .r) i nan (omega arith) (omega (arith, fits l .r)) in
+    c .rise-of .ensures
+    ∙ (λ j. riseOf (w .p) (getD (w .kind) i 0) (w .elevation) (c .before .before .before .before .node-of .ensures j) (getD (w .sums) i 0) (read j))
 
-judged : (c : tie.After-outcome-at Inv-loop μ-loop) → let l = c .before .before .before in answerOf (c .outcome-at .result) (l .loop .i) ≡ levelIn (from l) (l .loop .i)
+judged : (c : tie.After-height Inv-loop μ-loop) → let l = c .before .before .before .before .before .before .before in c .height .result ≡ levelIn (from l) (l .loop .i)
 unfolding levelIn
-judged c = ap (λ (o : Outcome). answerOf o (c .before .before .before .loop .i)) (found c)
+judged c =
+    let z = c .before in
+    c .height .ensures ∙ (λ j. answerOf (level (z .before .before .before .before .node-of .ensures j .h) (found z j)) (z .before .before .before .before .before .before .loop .i))
 
 loop-holds : tie.Need-loop-holds Inv-loop μ-loop
-loop-holds c = (omega arith, (sym (up-none _ _), below-none _))
+unfolding clean
+loop-holds c = (omega arith, (sym (up-none _ _), refl))
 
-mul-outcome-at : tie.Need-mul-outcome-at Inv-loop μ-loop
-mul-outcome-at c = search needs
+node-of-requires : tie.Need-node-of-requires Inv-loop μ-loop
+node-of-requires c κs = (c .loop-test .taken, fits (c .before) .state)
 
-slice-read-outcome-at : tie.Need-slice-read-outcome-at Inv-loop μ-loop
-slice-read-outcome-at c = inside (c .before)
+shared-slice-read-rise-of : tie.Need-shared-slice-read-rise-of Inv-loop μ-loop
+shared-slice-read-rise-of c = omega (arith, fits (c .before .before .before) .kind, c .before .before .loop-test .taken)
 
-outcome-at-requires : tie.Need-outcome-at-requires Inv-loop μ-loop
-outcome-at-requires c κs =
-    let l = c .before .before in
-    let z = fits l in
-    ((c .before .loop-test .taken, z .state, z .kind), (z .sums, z .exact (l .loop .i)))
+mul-rise-of : tie.Need-mul-rise-of Inv-loop μ-loop
+mul-rise-of c = search needs
 
-enum-known-o : tie.Need-enum-known-o Inv-loop μ-loop
-enum-known-o c = search needs
+shared-slice-read-rise-of-2 : tie.Need-shared-slice-read-rise-of-2 Inv-loop μ-loop
+shared-slice-read-rise-of-2 c = omega (arith, fits (c .before .before .before .before) .sums, c .before .before .before .loop-test .taken)
+
+mul-rise-of-2 : tie.Need-mul-rise-of-2 Inv-loop μ-loop
+mul-rise-of-2 c = search needs
+
+slice-read-rise-of : tie.Need-slice-read-rise-of Inv-loop μ-loop
+slice-read-rise-of c = inside (c .before .before .before .before)
+
+rise-of-requires : tie.Need-rise-of-requires Inv-loop μ-loop
+rise-of-requires c κs = let l = c .before .before .before .before .before in fits l .exact (l .loop .i)
 
 mul-r : tie.Need-mul-r Inv-loop μ-loop
 mul-r c = search needs
@@ -83,19 +89,8 @@ mul-r c = search needs
 slice-write-r : tie.Need-slice-write-r Inv-loop μ-loop
 slice-write-r c = inside (c .before .before .before .before .before)
 
-answer-requires : tie.Need-answer-requires Inv-loop μ-loop
-answer-requires c κs = search needs
-
-same-length : tie.Need-same-length Inv-loop μ-loop
-same-length c = long (c .before .before .before .before .before)
-
-returns : tie.Need-returns Inv-loop μ-loop
-returns c =
-    let o = c .before .before in
-    let l = o .before .before .before in
-    let here = c .answer .ensures ∙ judged o in
-    let stopped = other-number (sym (c .answer .ensures)) (refuses (o .outcome-at .result) (l .loop .i) (c .before .match .keys2)) in
-    (here ∙ sym (scan-hit (levelIn (from l)) _ _ (o .before .before .loop-test .taken) (l .loop .inv .1 .1) (other-number here stopped)), λ z. absurd (stopped z))
+height-requires : tie.Need-height-requires Inv-loop μ-loop
+height-requires c κs = search needs
 
 add-i : tie.Need-add-i Inv-loop μ-loop
 add-i c = search needs
@@ -105,33 +100,29 @@ loop-less c = search needs
 
 loop-again : tie.Need-loop-again Inv-loop μ-loop
 loop-again c =
-    let o = c .before .before .before in
-    let l = o .before .before .before in
+    let t = c .before in
+    let z = t .before in
+    let l = z .before .before .before .before .before .before in
     let w = from l in
     let i = l .loop .i in
-    let here : i < length (w .r) = omega (arith, fits l .r, o .before .before .loop-test .taken) in
-    let taken = c .before .o .given .1 in
-    let value = accepted-level _ _ _ (sym (found o) ∙ taken) in (
+    let here : i < length (w .r) = omega (arith, fits l .r, z .before .before .before .before .before .loop-test .taken) in (
       omega arith,
       (
-        (λ j. set (l .loop .inv .1 .0 j) i (value j)) ∙ up-more i (riseIn w) (w .r) here,
-        below-more _ _ (l .loop .inv .1 .1) (same-number (judged o) (passes i taken)),
+        (λ j. set (l .loop .inv .1 .0 j) i (found z j)) ∙ up-more i (riseIn w) (w .r) here,
+        clean-turn (levelIn w) i (l .loop .inv .1 .1) (judged t),
       ),
     )
 
-accept-requires : tie.Need-accept-requires Inv-loop μ-loop
-accept-requires c κs = search needs
+same-length : tie.Need-same-length Inv-loop μ-loop
+same-length c = long (c .before)
 
-same-length-2 : tie.Need-same-length-2 Inv-loop μ-loop
-same-length-2 c = long (c .before .before)
-
-returns-2 : tie.Need-returns-2 Inv-loop μ-loop
-returns-2 c =
-    let l = c .before .before in
+returns : tie.Need-returns Inv-loop μ-loop
+returns c =
+    let l = c .before in
     let w = from l in
-    let all : l .loop .i ≡ length (w .r) = omega (arith, fits l .r) in (
-      c .accept .ensures ∙ sym (scan-none (levelIn w) _ (λ k h. l .loop .inv .1 .1 k (omega arith))),
-      λ z. l .loop .inv .1 .0 ∙ ap (λ (k : ℕ). upTo k (riseIn w) (w .r)) all ∙ up-all (riseIn w) (w .r) ∙ ap (λ (k : ℕ). table k (riseIn w)) (fits l .r),
+    let all : l .loop .i ≡ length (w .h) = omega arith in (
+      l .loop .inv .1 .1 ∙ ap (clean (levelIn w)) all,
+      l .loop .inv .1 .0 ∙ ap (λ (k : ℕ). upTo k (riseIn w) (w .r)) (all ∙ sym (fits l .r)) ∙ up-all (riseIn w) (w .r) ∙ ap (λ (k : ℕ). table k (riseIn w)) (fits l .r),
     )
 
 pub rises-spec : {M : Type 1} → statement M
@@ -141,18 +132,18 @@ rises-spec =
     Inv-loop
     μ-loop
     loop-holds
-    mul-outcome-at
-    slice-read-outcome-at
-    outcome-at-requires
-    enum-known-o
+    node-of-requires
+    shared-slice-read-rise-of
+    mul-rise-of
+    shared-slice-read-rise-of-2
+    mul-rise-of-2
+    slice-read-rise-of
+    rise-of-requires
     mul-r
     slice-write-r
-    answer-requires
-    same-length
-    returns
+    height-requires
     add-i
     loop-less
     loop-again
-    accept-requires
-    same-length-2
-    returns-2)
+    same-length
+    returns)

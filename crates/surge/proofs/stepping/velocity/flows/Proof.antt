@@ -1,10 +1,10 @@
-use Prim.Native.Nat.{ℕ, _-_, _*_, _≤_, _<_}
-use mathlib.Core.Path.{_≡_, sym, ap, _∙_}
+use Prim.Native.Nat.{_-_, _*_, _≤_}
+use mathlib.Core.Path.{_≡_, refl, sym, ap, _∙_}
 use native.Mathlib.Omega.{arith}
-use borrow.Author.Count.{below-none, below-more}
 use borrow.Author.Needs.{needs}
 use lib.ListN.{length}
-use Rattle.lists.proofs.ScanLaws.{scan-none, scan-hit, same-number, other-number}
+use Rattle.lists.specs.Scan.{clean}
+use Rattle.lists.proofs.ScanLaws.{clean-turn}
 use Rattle.equations.specs.declared.Flow.{Flow}
 use Rattle.surge.specs.Step.{speedOf}
 use Rattle.surge.specs.Passes.{Moving, moving, MovingFits, flowRoom, flowIn, speedIn}
@@ -14,12 +14,12 @@ use Rattle.surge.proofs.stepping.velocity.flows.Statement.{statement}
 use Rattle.surge.proofs.stepping.velocity.flows.Tie as tie
 
 abbrev Inv-loop : tie.InvT-loop
-Inv-loop work₀ p w new kind h state sums n i₀ work i =
+Inv-loop work₀ p w new kind h state sums n all₀ i₀ work all i =
     let v = moving p w new kind h state sums work₀ in
-    (i ≤ n) × ((work ≡ flowRoom v i) × ((k : ℕ) → k < i → speedIn v k .number ≡ 0))
+    (i ≤ n) × ((work ≡ flowRoom v i) × (all ≡ clean (speedIn v) i))
 
 abbrev μ-loop : tie.MeasureT-loop
-μ-loop work₀ p w new kind h state sums n i₀ work i = n - i
+μ-loop work₀ p w new kind h state sums n all₀ i₀ work all i = n - i
 
 abbrev its : tie.Start Inv-loop μ-loop → Moving
 its s = let a = s .args in moving (a .p) (a .w) (a .new) (a .kind .now) (a .h .now) (a .state .now) (a .sums .now) (a .work .now)
@@ -49,15 +49,18 @@ found c =
     let s = start l in
     flow-read (its s) (z-long s) (x-long s) (y-long s) (l .loop .i) (c .before .before .before .before .loop-test .taken) (l .loop .work) (l .loop .inv .1 .0) _ (c .flow-at .ensures)
 
-judged : (c : tie.After-speed Inv-loop μ-loop) → let l = c .before .before .before .before .before .before in c .speed .result ≡ speedIn (its (start l)) (l .loop .i)
+judged : (c : tie.After-speed Inv-loop μ-loop) → let l = c .before .before .before .before .before .before .before .before .before .before in c .speed .result ≡ speedIn (its (start l)) (l .loop .i)
 unfolding speedIn
-judged c = c .speed .ensures ∙ ap (λ (f : Flow). speedOf f (c .before .before .before .before .before .before .loop .i)) (found (c .before))
+judged c =
+    let f = c .before .before .before .before .before in
+    c .speed .ensures ∙ ap (λ (q : Flow). speedOf q (f .before .before .before .before .before .loop .i)) (found f)
 
 loop-holds : tie.Need-loop-holds Inv-loop μ-loop
+unfolding clean
 loop-holds c =
     let a = c .before .before .before .before .before in
     let v = its a in
-    (omega arith, (as-three (length (a .args .h .now)) (a .args .work .now) (a .pre .1) ∙ flow-none v (z-long a) (x-long a) (y-long a), below-none _))
+    (omega arith, (as-three (length (a .args .h .now)) (a .args .work .now) (a .pre .1) ∙ flow-none v (z-long a) (x-long a) (y-long a), refl))
 
 mul-flow-at : tie.Need-mul-flow-at Inv-loop μ-loop
 mul-flow-at c = let r = roomy (c .before) in search needs
@@ -92,57 +95,43 @@ flow-at-requires c κs =
     let z = fits l in
     ((c .before .before .before .loop-test .taken, z .state, z .kind), (z .sums, z .exact (l .loop .i)))
 
+write-flow-requires : tie.Need-write-flow-requires Inv-loop μ-loop
+write-flow-requires c κs = let t = c .before .before .before .before .before in (t .loop-test .taken, roomy (t .before))
+
 speed-requires : tie.Need-speed-requires Inv-loop μ-loop
 speed-requires c κs = search needs
 
-same-length : tie.Need-same-length Inv-loop μ-loop
-same-length c = let l = c .before .before .before .before .before .before .before .before in roomy l ∙ sym (start l .pre .1)
-
-returns : tie.Need-returns Inv-loop μ-loop
-returns c =
-    let s = c .before .before in
-    let l = s .before .before .before .before .before .before in
-    let here = judged s in (
-      here ∙ sym (scan-hit (speedIn (its (start l))) _ _ (s .before .before .before .before .before .loop-test .taken) (l .loop .inv .1 .1) (other-number here (c .if1 .taken))),
-      λ z. absurd (c .if1 .taken z),
-    )
-
-write-flow-requires : tie.Need-write-flow-requires Inv-loop μ-loop
-write-flow-requires c κs =
-    let s = c .before .before .before in
-    (s .before .before .before .before .before .loop-test .taken, roomy (s .before .before .before .before .before .before))
-
 add-i : tie.Need-add-i Inv-loop μ-loop
-add-i c = let i = c .before .before .before .before .before .before .before .before .before .before .before in record { fits = omega (arith, i .loop-test .taken, start (i .before) .good) }
+add-i c = let t = c .before .before .before .before .before .before .before .before .before .before in record { fits = omega (arith, t .loop-test .taken, start (t .before) .good) }
 
 loop-less : tie.Need-loop-less Inv-loop μ-loop
 loop-less c = search needs
 
 loop-again : tie.Need-loop-again Inv-loop μ-loop
 loop-again c =
-    let s = c .before .before .before .before .before .before in
-    let l = s .before .before .before .before .before .before in
+    let s = c .before in
+    let w = s .before .before .before in
+    let f = w .before .before in
+    let t = f .before .before .before .before in
+    let l = t .before in
     let a = start l in
-    let h = s .before .before .before .before .before .loop-test .taken in (
+    let h = t .loop-test .taken in (
       omega (arith, h),
       (
-        c .before .before .write-flow .ensures ∙ flow-more (its a) (z-long a) (x-long a) (y-long a) (l .loop .i) h (l .loop .work) (l .loop .inv .1 .0) _ (found (s .before)),
-        below-more _ _ (l .loop .inv .1 .1) (same-number (judged s) (c .before .before .before .before .if1 .left)),
+        w .write-flow .ensures ∙ flow-more (its a) (z-long a) (x-long a) (y-long a) (l .loop .i) h (l .loop .work) (l .loop .inv .1 .0) _ (found f),
+        clean-turn (speedIn (its a)) (l .loop .i) (l .loop .inv .1 .1) (judged s),
       ),
     )
 
-accept-requires : tie.Need-accept-requires Inv-loop μ-loop
-accept-requires c κs = search needs
+same-length : tie.Need-same-length Inv-loop μ-loop
+same-length c = let l = c .before in roomy l ∙ sym (start l .pre .1)
 
-same-length-2 : tie.Need-same-length-2 Inv-loop μ-loop
-same-length-2 c = let l = c .before .before in roomy l ∙ sym (start l .pre .1)
-
-returns-2 : tie.Need-returns-2 Inv-loop μ-loop
-returns-2 c =
-    let l = c .before .before in
+returns : tie.Need-returns Inv-loop μ-loop
+returns c =
+    let l = c .before in
     let v = its (start l) in
-    let all : l .loop .i ≡ length (v .h) = omega arith in
-    (c .accept .ensures ∙ sym (scan-none (speedIn v) _ (λ k h. l .loop .inv .1 .1 k (omega arith))), λ z. l .loop .inv .1 .0 ∙ ap (flowRoom v) all)
+    let end : l .loop .i ≡ length (v .h) = omega arith in
+    (l .loop .inv .1 .1 ∙ ap (clean (speedIn v)) end, l .loop .inv .1 .0 ∙ ap (flowRoom v) end)
 
 pub flows-spec : {M : Type 1} → statement M
 flows-spec =
@@ -161,13 +150,10 @@ flows-spec =
     mul-flow-at-4
     slice-read-flow-at-3
     flow-at-requires
-    speed-requires
-    same-length
-    returns
     write-flow-requires
+    speed-requires
     add-i
     loop-less
     loop-again
-    accept-requires
-    same-length-2
-    returns-2)
+    same-length
+    returns)
