@@ -1,5 +1,5 @@
 -- Document 01, "Triangle geometry".
-use Prim.Native.Nat.{ℕ, _/_}
+use Prim.Native.Nat.{ℕ, zero, suc, _/_}
 use mathlib.Core.Bool.{Bool, _&&_}
 use mathlib.Core.List.{List}
 use lib.IntN.{ℤ, pos, natAbs, _-ℤ_, _*ℤ_}
@@ -14,6 +14,12 @@ use Rattle.surge.specs.Lent.{corners}
 
 abbrev pub nodesOf : Corners → Three ℕ
 nodesOf c = record { first = c .n1; second = c .n2; third = c .n3 }
+
+-- the corner j, from 0, of three
+abbrev pub nth : Three ℕ → ℕ → ℕ
+nth c zero = c .first
+nth c (suc zero) = c .second
+nth c (suc (suc j)) = c .third
 
 -- "a1 = x3-x2, a2 = x1-x3, a3 = x2-x1; b1 = y2-y3, b2 = y3-y1, b3 = y1-y2"
 abbrev pub sidesOf : Three ℤ → Three ℤ → WholeSides

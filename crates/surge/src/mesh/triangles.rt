@@ -1,12 +1,15 @@
 // Rows 3 to 6: the triangles.
 use super::geometry;
+use super::geometry::Corners;
 use lists::rows;
 use lists::rows::Answer;
 ghost use mathlib.Core.Path.{_≡_};
-ghost use Prim.Native.Nat.{_+_, _*_, _/_, _<_};
+ghost use Prim.Native.Nat.{_+_, _*_, _/_, _%_, _<_};
 ghost use lib.ListN.{length};
+ghost use Rattle.lists.specs.Gather.{Below};
 ghost use Rattle.lists.specs.Scan.{scan};
-ghost use Rattle.surge.specs.Rows.{rows3to5, legSeen, row6, row6If};
+ghost use Rattle.surge.specs.Geometry.{nodesOf, nth};
+ghost use Rattle.surge.specs.Rows.{rows3to5, isLeg, row6, row6If};
 
 // Rows 3, 4 and 5 of triangle t.
 fn shape(x: &[i32], y: &[i32], tri: &[u16], t: usize) -> Answer
@@ -42,15 +45,27 @@ pub(crate) fn shapes(x: &[i32], y: &[i32], tri: &[u16]) -> Answer
     rows::accept()
 }
 
-// Whether the leg of triangle t from its corner j, from 0, is a leg of triangle s.
-fn leg_seen(tri: &[u16], t: usize, j: usize, s: usize) -> bool
-    requires { ⌜ (3 * t + 2 < length (now tri)) × (3 * s + 2 < length (now tri)) × (j < 3) ⌝ }
-    ensures { λ r. ⌜ r ≡ legSeen (now (tri .entry)) t j s ⌝ }
+// The leg from corner j, from 0, as one number, so that both its ends are compared at once.
+fn leg(c: Corners, j: usize) -> usize
+    requires { ⌜ (j < 3) × Below (nodesOf c) 65536 ⌝ }
+    ensures { λ r. ⌜ r ≡ nth (nodesOf c) j * 65536 + nth (nodesOf c) ((j + 1) % 3) ⌝ }
 {
-    let from = geometry::node_at(tri, 3 * t + j);
-    let to = geometry::node_at(tri, 3 * t + (j + 1) % 3);
-    let c = geometry::corners_at(tri, s);
-    (from == c.n1) & (to == c.n2) | (from == c.n2) & (to == c.n3) | (from == c.n3) & (to == c.n1)
+    if j == 0 {
+        return c.n1 * 65536 + c.n2;
+    }
+    if j == 1 {
+        return c.n2 * 65536 + c.n3;
+    }
+    c.n3 * 65536 + c.n1
+}
+
+// Whether a triangle's leg from its corner j, from 0, is a leg of the triangle with corners c.
+fn leg_seen(its: Corners, j: usize, c: Corners) -> bool
+    requires { ⌜ (j < 3) × Below (nodesOf its) 65536 × Below (nodesOf c) 65536 ⌝ }
+    ensures { λ r. ⌜ r ≡ isLeg (nodesOf c) (nth (nodesOf its) j) (nth (nodesOf its) ((j + 1) % 3)) ⌝ }
+{
+    let a = leg(its, j);
+    (a == leg(c, 0)) | (a == leg(c, 1)) | (a == leg(c, 2))
 }
 
 // Row 6: the pairs of triangles and the legs of the later one, left at the first leg seen before.
@@ -60,11 +75,13 @@ fn legs(tri: &[u16]) -> Answer
     let e = tri.len() / 3;
     let mut t = 0;
     'pairs: while t < e {
+        let its = geometry::corners_at(tri, t);
         let mut s = 0;
         while s < t {
+            let c = geometry::corners_at(tri, s);
             let mut j = 0;
             while j < 3 {
-                if leg_seen(tri, t, j, s) {
+                if leg_seen(its, j, c) {
                     break 'pairs;
                 }
                 j += 1;

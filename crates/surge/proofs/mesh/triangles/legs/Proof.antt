@@ -9,7 +9,7 @@ use Rattle.lists.specs.declared.rows.Answer.{Answer}
 use Rattle.lists.specs.Scan.{refused, some}
 use Rattle.lists.proofs.ScanLaws.{scan-none, scan-hit, some-none}
 use Rattle.surge.specs.Rows.{legSeen, row6}
-use Rattle.surge.proofs.RowLaws.{legs-new, leg-old}
+use Rattle.surge.proofs.RowLaws.{corners-small, seen-leg, legs-new, leg-old}
 use Rattle.surge.proofs.mesh.triangles.legs.Statement.{statement}
 use Rattle.surge.proofs.mesh.triangles.legs.Tie as tie
 
@@ -17,16 +17,16 @@ six : {a : Answer} {t : ℕ} → a ≡ refused 6 t → a .number ≡ 0 → ⊥
 six e z = absurd (omega (arith, ap (λ (b : Answer). b .number) e, z))
 
 abbrev Inv-loop2 : tie.InvT-loop2
-Inv-loop2 tri e t s j₀ j = (j ≤ 3) × ((q : ℕ) → q < j → legSeen tri t q s ≡ false)
+Inv-loop2 tri e t its s c j₀ j = (j ≤ 3) × ((q : ℕ) → q < j → legSeen tri t q s ≡ false)
 
 abbrev μ-loop2 : tie.MeasureT-loop2
-μ-loop2 tri e t s j₀ j = 3 - j
+μ-loop2 tri e t its s c j₀ j = 3 - j
 
 abbrev Inv-loop : tie.InvT-loop
-Inv-loop tri e t s₀ s = (s ≤ t) × ((q : ℕ) → q < s → some (λ j. legSeen tri t j q) 3 ≡ false)
+Inv-loop tri e t its s₀ s = (s ≤ t) × ((q : ℕ) → q < s → some (λ j. legSeen tri t j q) 3 ≡ false)
 
 abbrev μ-loop : tie.MeasureT-loop
-μ-loop tri e t s₀ s = t - s
+μ-loop tri e t its s₀ s = t - s
 
 abbrev Inv-pairs : tie.InvT-pairs
 Inv-pairs tri e t₀ t = (t ≤ e) × ((q : ℕ) → q < t → row6 tri q .number ≡ 0)
@@ -37,14 +37,24 @@ abbrev μ-pairs : tie.MeasureT-pairs
 pairs-holds : tie.Need-pairs-holds Inv-loop2 μ-loop2 Inv-loop μ-loop Inv-pairs μ-pairs
 pairs-holds c = (search needs, below-none _)
 
+corners-at-requires : tie.Need-corners-at-requires Inv-loop2 μ-loop2 Inv-loop μ-loop Inv-pairs μ-pairs
+corners-at-requires c κs = search needs
+
 loop-holds : tie.Need-loop-holds Inv-loop2 μ-loop2 Inv-loop μ-loop Inv-pairs μ-pairs
 loop-holds c = (search needs, below-none _)
+
+corners-at-requires-2 : tie.Need-corners-at-requires-2 Inv-loop2 μ-loop2 Inv-loop μ-loop Inv-pairs μ-pairs
+corners-at-requires-2 c κs = search needs
 
 loop2-holds : tie.Need-loop2-holds Inv-loop2 μ-loop2 Inv-loop μ-loop Inv-pairs μ-pairs
 loop2-holds c = (search needs, below-none _)
 
 leg-seen-requires : tie.Need-leg-seen-requires Inv-loop2 μ-loop2 Inv-loop μ-loop Inv-pairs μ-pairs
-leg-seen-requires c κs = search needs
+leg-seen-requires c κs =
+    let l = c .before .before .before .before in
+    let p = l .before .before .before in
+    let small = corners-small (p .before .before .args .tri .now) (p .before .shared-slice-known .given) in
+    (search needs, rw (l .before .corners-at .ensures) (small (p .pairs .t)), rw (c .before .before .corners-at2 .ensures) (small (l .loop .s)))
 
 add-j : tie.Need-add-j Inv-loop2 μ-loop2 Inv-loop μ-loop Inv-pairs μ-pairs
 add-j c = search needs
@@ -53,7 +63,12 @@ loop2-less : tie.Need-loop2-less Inv-loop2 μ-loop2 Inv-loop μ-loop Inv-pairs �
 loop2-less c = search needs
 
 loop2-again : tie.Need-loop2-again Inv-loop2 μ-loop2 Inv-loop μ-loop Inv-pairs μ-pairs
-loop2-again c = (search needs, below-more _ _ (c .before .before .before .loop2 .inv .1) (sym (c .before .leg-seen .ensures) ∙ c .if1 .left))
+loop2-again c =
+    let k = c .before .before .before in
+    let l = k .before .before .before in
+    let p = l .before .before .before in
+    let its = seen-leg (p .before .before .args .tri .now) (p .pairs .t) (k .loop2 .j) (l .loop .s) (c .before .before .loop2-test .taken) (l .before .corners-at .ensures) (k .before .corners-at2 .ensures) in
+    (search needs, below-more _ _ (k .loop2 .inv .1) (sym its ∙ sym (c .before .leg-seen .ensures) ∙ c .if1 .left))
 
 add-s : tie.Need-add-s Inv-loop2 μ-loop2 Inv-loop μ-loop Inv-pairs μ-pairs
 add-s c = search needs
@@ -62,7 +77,7 @@ loop-less : tie.Need-loop-less Inv-loop2 μ-loop2 Inv-loop μ-loop Inv-pairs μ-
 loop-less c = search needs
 
 loop-again : tie.Need-loop-again Inv-loop2 μ-loop2 Inv-loop μ-loop Inv-pairs μ-pairs
-loop-again c = (search needs, below-more _ _ (c .before .before .before .loop .inv .1) (some-none _ 3 (λ q h. c .before .loop2 .inv .1 q (omega arith))))
+loop-again c = (search needs, below-more _ _ (c .before .before .before .before .loop .inv .1) (some-none _ 3 (λ q h. c .before .loop2 .inv .1 q (omega arith))))
 
 add-t : tie.Need-add-t Inv-loop2 μ-loop2 Inv-loop μ-loop Inv-pairs μ-pairs
 add-t c = search needs
@@ -71,7 +86,7 @@ pairs-less : tie.Need-pairs-less Inv-loop2 μ-loop2 Inv-loop μ-loop Inv-pairs �
 pairs-less c = search needs
 
 pairs-again : tie.Need-pairs-again Inv-loop2 μ-loop2 Inv-loop μ-loop Inv-pairs μ-pairs
-pairs-again c = (search needs, below-more _ _ (c .before .before .before .pairs .inv .1) (legs-new _ _ (λ q h. c .before .loop .inv .1 q (omega arith))))
+pairs-again c = (search needs, below-more _ _ (c .before .before .before .before .pairs .inv .1) (legs-new _ _ (λ q h. c .before .loop .inv .1 q (omega arith))))
 
 refuse-requires : tie.Need-refuse-requires Inv-loop2 μ-loop2 Inv-loop μ-loop Inv-pairs μ-pairs
 refuse-requires c κs = search needs
@@ -83,7 +98,13 @@ returns : tie.Need-returns Inv-loop2 μ-loop2 Inv-loop μ-loop Inv-pairs μ-pair
 returns c =
     let p = c .before .before .before in
     let old =
-    ⊎-elim (λ w. absurd (omega arith)) (λ w. leg-old _ _ _ _ (w .2 .taken) (w .4 .taken) (sym (w .5 .ensures) ∙ w .6 .taken)) (c .before .before .pairs-test .came) in
+    ⊎-elim
+    (λ w. absurd (omega arith))
+    (λ w. leg-old _ _ _ _ (w .3 .taken) (w .6 .taken)
+    (sym (seen-leg (p .before .before .args .tri .now) (p .pairs .t) (w .5 .j) (w .2 .s) (w .6 .taken) (w .1 .ensures) (w .4 .ensures))
+    ∙ sym (w .7 .ensures)
+    ∙ w .8 .taken))
+    (c .before .before .pairs-test .came) in
     c .refuse .ensures ∙ sym old ∙ sym (scan-hit _ _ _ (c .before .if2 .taken) (p .pairs .inv .1) (six old))
 
 returns-2 : tie.Need-returns-2 Inv-loop2 μ-loop2 Inv-loop μ-loop Inv-pairs μ-pairs
@@ -100,7 +121,9 @@ legs-spec =
     Inv-pairs
     μ-pairs
     pairs-holds
+    corners-at-requires
     loop-holds
+    corners-at-requires-2
     loop2-holds
     leg-seen-requires
     add-j
