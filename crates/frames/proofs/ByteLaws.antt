@@ -75,21 +75,21 @@ field-length zero v = refl
 field-length (suc w) v = length-append (field w _) (_ ∷ []) ∙ ap (λ (n : ℕ). n + 1) (field-length w _) ∙ add-one w
 
 -- ---- a text two characters at a time
-pair : (s : List ℕ) (i : ℕ) → i + 1 < length s → drop i s ≡ getD s i 0 ∷ getD s (i + 1) 0 ∷ drop (i + 2) s
-pair s i h =
-    let e : i + 2 ≡ suc (suc i) = omega arith in
-    let h0 : i < length s = omega arith in
-    let h1 : suc i < length s = omega arith in
-    rw (e, add-one, drop-cons s i 0 h0, drop-cons s (suc i) 0 h1)
+module _ (s : List ℕ) (k : ℕ) (h : 2 * k + 1 < length s) where
+  pair : drop (2 * k) s ≡ getD s (2 * k) 0 ∷ getD s (2 * k + 1) 0 ∷ drop (2 * (k + 1)) s
+  pair =
+      let e : 2 * (k + 1) ≡ suc (suc (2 * k)) = omega arith in
+      let h0 : 2 * k < length s = omega arith in
+      let h1 : suc (2 * k) < length s = omega arith in
+      rw (e, add-one, drop-cons s (2 * k) 0 h0, drop-cons s (suc (2 * k)) 0 h1)
 
-module _ (s : List ℕ) (i : ℕ) (h : i + 1 < length s) where
-  pub bytes-pair : bytes (drop i s) ≡ byte (getD s i 0) (getD s (i + 1) 0) ∷ bytes (drop (i + 2) s)
+  pub bytes-pair : bytes (drop (2 * k) s) ≡ byte (getD s (2 * k) 0) (getD s (2 * k + 1) 0) ∷ bytes (drop (2 * (k + 1)) s)
   unfolding bytes
-  bytes-pair = rw (pair s i h)
+  bytes-pair = rw pair
 
-  pub digits-pair : allDigits (drop i s) ≡ (isDigit (getD s i 0) && isDigit (getD s (i + 1) 0) && allDigits (drop (i + 2) s))
+  pub digits-pair : allDigits (drop (2 * k) s) ≡ (isDigit (getD s (2 * k) 0) && isDigit (getD s (2 * k + 1) 0) && allDigits (drop (2 * (k + 1)) s))
   unfolding allDigits
-  digits-pair = rw (pair s i h)
+  digits-pair = rw pair
 
 pub bytes-none : (l : List ℕ) → length l ≤ 1 → bytes l ≡ []
 unfolding bytes

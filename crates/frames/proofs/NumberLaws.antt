@@ -4,7 +4,7 @@ use mathlib.Core.Path.{_≡_, refl, sym, ap, _∙_}
 use mathlib.Core.List.{List, [], _∷_, _++_}
 use mathlib.Core.Bool.{Bool, true, false}
 use mathlib.Core.Logic.{_⊎_, inr, ⊎-elim}
-use native.Mathlib.Nat.{pow-suc, pow-zero, mul-assoc, div-lt-iff-lt-mul, div-add-mod', mod-add-mod, add-assoc, lt-of-lt-of-le, pow-le-pow-right}
+use native.Mathlib.Nat.{pow-suc, pow-zero, mul-assoc, div-lt-iff-lt-mul, div-add-mod', lt-of-lt-of-le, pow-le-pow-right}
 use native.Mathlib.Numerals.{add-one}
 use native.Mathlib.Omega.{arith}
 use borrow.Author.Tests.{ltb-true, ltb-false}
@@ -75,6 +75,6 @@ sum-join [] b = omega arith
 sum-join (x ∷ a) b = let e = sum-join a b in omega arith
 
 -- the sum so far, with one byte more in it
-pub sum-more : (a b : ℕ) (l : List ℕ) → ((a + b) % 256 + sum l) % 256 ≡ (a + sum (b ∷ l)) % 256
+pub sum-more : (a b : ℕ) (l : List ℕ) → (a % 256 + b + sum l) % 256 ≡ (a + sum (b ∷ l)) % 256
 unfolding sum
-sum-more a b l = mod-add-mod (a + b) 256 (sum l) ∙ ap (λ (x : ℕ). x % 256) (add-assoc a b (sum l))
+sum-more a b l = omega arith

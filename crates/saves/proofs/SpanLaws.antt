@@ -1,15 +1,16 @@
 -- Where a line stands in a text: what is due there, where it starts, and the line as much of it as there is.
 use Prim.Native.Nat.{ℕ, zero, suc, _+_, _-_, _*_, _<_, _≤_}
 use mathlib.Core.Path.{_≡_, refl, sym, ap, _∙_}
-use mathlib.Core.Bool.{Bool, true, false, cond, _||_}
+use mathlib.Core.Bool.{Bool, true, false, cond}
 use mathlib.Core.List.{List}
 use native.Mathlib.Omega.{arith}
 use borrow.Author.Tests.{lt-ltb, le-ltb}
-use lib.Dec.{eqb, leb, ltb}
+use lib.Dec.{eqb, ltb}
 use lib.ListN.{length, take, drop, length-drop, drop-of-length-le}
 use lib.Seq.{take-all, take-nil, drop-length}
 use Rattle.lists.specs.declared.rows.Answer.{Answer}
-use Rattle.lists.specs.Scan.{row, _then_}
+use Rattle.lists.specs.Scan.{accepted, row, _then_}
+use Rattle.lists.proofs.ScanLaws.{row-holds}
 use Rattle.frames.specs.Frames.{digitsOf}
 use Rattle.frames.specs.Reading.{value, fault}
 use Rattle.frames.proofs.BackLaws.{value-small}
@@ -40,11 +41,16 @@ start-is n (suc i) h l =
     let s : suc i - 1 ≡ i = omega arith in
     rw (s, start-node n i (omega arith))
 
--- ---- row 23 past the head
-pub count-line : (n e : ℕ) (line : List ℕ) (j : ℕ) → (j ≡ 0 → ⊥) → row (leb j n || eqb (value line 3 2) n) 23 j ≡ row23 n e line j
+-- ---- row 23 past the head: nothing of a node's line, and N of the last
+pub count-node : (n e : ℕ) (line : List ℕ) (j : ℕ) → (j ≡ 0 → ⊥) → j ≤ n → row23 n e line j ≡ accepted
 unfolding row23
-count-line n e line zero h = absurd (h refl)
-count-line n e line (suc i) h = refl
+count-node n e line zero h l = absurd (h refl)
+count-node n e line (suc i) h l = row-holds 23 (suc i) (rw (lt-ltb i n l))
+
+pub count-last : (n e : ℕ) (line : List ℕ) (j : ℕ) → n < j → row23 n e line j ≡ row (eqb (value line 3 2) n) 23 j
+unfolding row23
+count-last n e line zero l = absurd (omega arith)
+count-last n e line (suc i) l = rw (le-ltb i n (omega arith))
 
 -- ---- the rows of line j, of which all that the code has at hand is as due
 pub line-rows : (n e : ℕ) (t : List ℕ) (j : ℕ) {line : List ℕ} {d k : ℕ} {a b : Answer} → line ≡ lineAt n t j → d ≡ due n j → k ≡ layoutAt n j .kind

@@ -79,15 +79,19 @@ fn standing(n: usize, text: &[u8], j: usize) -> Span
     Span { from, to }
 }
 
-// Row 23 of line j.
+// Row 23 of line j: N and E at the head, nothing at a node's line, N at the end line.
 fn counts(n: usize, e: usize, line: &[u8], j: usize) -> Answer
     ensures { λ r. ⌜ r ≡ row23 n e (now (line .entry)) j ⌝ }
 {
-    let same = reading::value(line, 3, 2) == n as u64;
     if j == 0 {
-        return rows::tested(same & (reading::value(line, 5, 2) == e as u64), 23, 0);
+        let nodes = reading::value(line, 3, 2) == n as u64;
+        let triangles = reading::value(line, 5, 2) == e as u64;
+        return rows::tested(nodes & triangles, 23, 0);
     }
-    rows::tested((j <= n) | same, 23, j)
+    if j <= n {
+        return rows::accept();
+    }
+    rows::tested(reading::value(line, 3, 2) == n as u64, 23, j)
 }
 
 // Rows 20 to 23 of line j.
