@@ -10,7 +10,7 @@ use native.Mathlib.Omega.{arith}
 use borrow.Author.Tests.{ltb-true, ltb-false}
 use lib.Dec.{lit<, ltb}
 use lib.ListN.{length, take, drop, getD, length-append, length-drop}
-use lib.Seq.{take-suc, take-all, getD-drop}
+use lib.Seq.{take-suc, take-all, take-take, getD-drop}
 use Rattle.frames.specs.Bytes.{bytes, field, number, sum}
 use Rattle.frames.proofs.ByteLaws.{bytes-small}
 
@@ -44,6 +44,13 @@ number-ends bs at k w h e =
   where
     all : (n : ℕ) → length bs ≤ at + n → take n (drop at bs) ≡ drop at bs
     all n p = take-all n (drop at bs) (rw length-drop (omega arith))
+
+-- a part that stands within the first n places
+pub part-within : (at w n : ℕ) (l : List ℕ) → at + w ≤ n → take w (drop at (take n l)) ≡ take w (drop at l)
+part-within zero w n l h = take-take w n l (omega arith)
+part-within (suc at) w zero l h = absurd (omega arith)
+part-within (suc at) w (suc n) [] h = refl
+part-within (suc at) w (suc n) (x ∷ l) h = part-within at w n l (omega arith)
 
 -- the number of k bytes that are read
 number-next : (s : List ℕ) (at k : ℕ) → number (take k (drop at (bytes s))) < 256 ^ k → (b : Bool) → ltb (at + k) (length (bytes s)) ≡ b

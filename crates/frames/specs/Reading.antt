@@ -1,6 +1,6 @@
 -- Document 01, "Refusal table", rows 20 to 22 over one line, and the values of its fields.
 use Prim.Native.Nat.{ℕ, _+_, _%_}
-use mathlib.Core.List.{List}
+use mathlib.Core.List.{List, [], _∷_}
 use mathlib.Core.Bool.{Bool, _&&_, cond}
 use lib.ListN.{length, take, drop, getD}
 use lib.Dec.{leb, eqb}
@@ -13,6 +13,10 @@ use Rattle.frames.specs.Frames.{lineFeed}
 -- the number in the `width` bytes from byte `at` of a line on, as many as it has; 0 where a field would be wider than 8
 unfoldable pub value : List ℕ → ℕ → ℕ → ℕ
 value line at width = cond (leb width 8) (number (take width (drop at (bytes line)))) 0
+
+-- the four fields of 8 bytes that follow kind and sequence, as in a node's line
+unfoldable pub values : List ℕ → List ℕ
+values line = value line 3 8 ∷ value line 11 8 ∷ value line 19 8 ∷ value line 27 8 ∷ []
 
 -- the digits due, two for each byte, and then the line feed and nothing more
 unfoldable pub isFramed : List ℕ → ℕ → Bool

@@ -1,7 +1,7 @@
 // Upper-case hexadecimal, two digits for each byte.
 ghost use mathlib.Core.Path.{_≡_};
-ghost use Prim.Native.Nat.{_+_, _*_, _%_, _<_};
-ghost use lib.ListN.{length, getD};
+ghost use Prim.Native.Nat.{_+_, _*_, _%_, _<_, _≤_};
+ghost use lib.ListN.{length, take, getD};
 ghost use Rattle.frames.specs.Bytes.{digit, worth, bytes};
 ghost use Rattle.frames.specs.Reading.{tallied};
 
@@ -38,6 +38,18 @@ pub(crate) fn byte_at(text: &[u8], k: usize) -> u64
     ensures { λ r. ⌜ r ≡ getD (bytes (now (text .entry))) k 0 ⌝ }
 {
     byte(worth(text[2 * k]), worth(text[2 * k + 1]))
+}
+
+// The 36 bytes of the longest frame. Their number is fixed, so that the compiler takes many at a time.
+pub(crate) fn frame(text: &[u8]) -> [u8; 36]
+    requires { ⌜ 72 ≤ length (now text) ⌝ }
+    ensures { λ r. ⌜ r ≡ take 36 (bytes (now (text .entry))) ⌝ }
+{
+    let mut out = [0u8; 36];
+    for k in 0..36 {
+        out[k] = byte_at(text, k) as u8;
+    }
+    out
 }
 
 // The sum of a text's bytes, modulo 256, and whether they are made of digits.

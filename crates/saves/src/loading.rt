@@ -2,6 +2,7 @@
 use super::float_at;
 use super::held_wind;
 use equations::Node;
+use frames::patterns;
 use frames::reading;
 use lists::rows;
 use lists::rows::Answer;
@@ -147,13 +148,13 @@ fn node_at(h: &[f64], text: &[u8], i: usize) -> Node
     let at = standing(h.len(), text, i + 1);
     let from = at.from;
     let to = at.to;
-    let line = &text[from..to];
+    let values = reading::values(&text[from..to]);
     Node {
         h: h[i],
-        earlier: float_at(line, 3),
-        z: float_at(line, 11),
-        u: float_at(line, 19),
-        v: float_at(line, 27),
+        earlier: patterns::float_of(values[0]),
+        z: patterns::float_of(values[1]),
+        u: patterns::float_of(values[2]),
+        v: patterns::float_of(values[3]),
     }
 }
 

@@ -69,6 +69,8 @@ use Rattle.frames.proofs.lines.Line.seal.Kinds as seal-kinds
 use Rattle.frames.proofs.lines.Line.seal.Reads as seal-reads
 use Rattle.frames.proofs.reading.value.Kinds as value-kinds
 use Rattle.frames.proofs.reading.value.Reads as value-reads
+use Rattle.frames.proofs.reading.values.Kinds as values-kinds
+use Rattle.frames.proofs.reading.values.Reads as values-reads
 use Rattle.frames.proofs.reading.fault.Kinds as fault-kinds
 use Rattle.frames.proofs.reading.fault.Reads as fault-reads
 use Rattle.frames.proofs.lines.put.Kinds as put-kinds
@@ -191,6 +193,9 @@ seal-determined κs a x y v w p q = (same p q, refl)
 
 pub value-determined : Determined value-kinds.ps value-kinds.r value-reads.Post
 value-determined κs a x y v w p q = (same p q, refl)
+
+pub values-determined : Determined values-kinds.ps values-kinds.r values-reads.Post
+values-determined κs a x y v w p q = (same p q, refl)
 
 pub fault-determined : Determined fault-kinds.ps fault-kinds.r fault-reads.Post
 fault-determined κs a x y v w p q = (same p q, refl)

@@ -1,0 +1,64 @@
+use Prim.Native.Nat.{_≤_, _<_, _-_}
+use mathlib.Core.Path.{_≡_, refl, sym, _∙_}
+use native.Mathlib.Omega.{arith}
+use native.Mathlib.Numerals.{add-one}
+use lib.ListN.{length, take, length-set}
+use lib.Seq.{take-suc, take-suc-set, take-all}
+use Rattle.frames.specs.Bytes.{bytes}
+use Rattle.frames.proofs.ByteLaws.{bytes-length, bytes-small}
+use Rattle.frames.proofs.digits.frame.Statement.{statement}
+use Rattle.frames.proofs.digits.frame.Tie as tie
+
+abbrev Inv-loop : tie.InvT-loop
+Inv-loop text out₀ k₀ out k = (k ≤ 36) × (length out ≡ 36) × (take k out ≡ take k (bytes text))
+
+abbrev μ-loop : tie.MeasureT-loop
+μ-loop text out₀ k₀ out k = 36 - k
+
+loop-holds : tie.Need-loop-holds Inv-loop μ-loop
+loop-holds c = (omega arith, refl, refl)
+
+byte-at-requires : tie.Need-byte-at-requires Inv-loop μ-loop
+byte-at-requires c κs = omega arith
+
+cast-out : tie.Need-cast-out Inv-loop μ-loop
+cast-out c = rw (c .byte-at .ensures) (record { fits = bytes-small _ _ })
+
+array-write-out : tie.Need-array-write-out Inv-loop μ-loop
+array-write-out c = omega arith
+
+add-k : tie.Need-add-k Inv-loop μ-loop
+add-k c = omega arith
+
+loop-less : tie.Need-loop-less Inv-loop μ-loop
+loop-less c = omega arith
+
+loop-again : tie.Need-loop-again Inv-loop μ-loop
+loop-again c =
+    let p = c .before .before in
+    let b = bytes (p .before .before .args .text .now) in
+    let k = p .loop .k in
+    let l : k < length (p .loop .out) = omega arith in
+    let m : k < length b = rw bytes-length (omega arith) in
+    (omega arith, simp length-set (p .loop .inv .1), rw (add-one, take-suc-set (p .loop .out) k (c .byte-at .result) l, take-suc b k 0 m, p .loop .inv .2, c .byte-at .ensures))
+
+returns : tie.Need-returns Inv-loop μ-loop
+returns c =
+    let p = c .before in
+    let last : p .loop .k ≡ 36 = omega arith in
+    sym (take-all 36 (p .loop .out) (omega arith)) ∙ (rw last at (p .loop .inv .2))
+
+pub frame-spec : {M : Type 1} → statement M
+frame-spec =
+    tie.close
+    (tie.spec
+    Inv-loop
+    μ-loop
+    loop-holds
+    byte-at-requires
+    cast-out
+    array-write-out
+    add-k
+    loop-less
+    loop-again
+    returns)
