@@ -1,7 +1,4 @@
-use mathlib.Core.Path.{ap, _∙_}
-use mathlib.Core.Bool.{Bool}
 use borrow.Author.Needs.{needs}
-use Rattle.lists.specs.Scan.{row}
 use Rattle.surge.specs.Rows.{row8}
 use Rattle.surge.proofs.mesh.nodes.depth.Statement.{statement}
 use Rattle.surge.proofs.mesh.nodes.depth.Tie as tie

@@ -3,15 +3,13 @@ use mathlib.Core.Path.{_≡_, refl, sym, ap, _∙_}
 use mathlib.Core.List.{List}
 use native.Mathlib.Omega.{arith}
 use borrow.Author.Needs.{needs}
-use lib.ListN.{length, getD, set, length-set}
+use lib.ListN.{length, getD, set}
 use lib.Ieee.{Float, nan}
 use Rattle.lists.specs.Table.{table, upTo}
 use Rattle.lists.specs.Scan.{clean}
 use Rattle.lists.proofs.TableLaws.{up-none, up-more, up-length, up-ahead, up-all}
 use Rattle.lists.proofs.ScanLaws.{clean-turn}
 use Rattle.equations.specs.Outcomes.{level, answerOf}
-use Rattle.equations.specs.declared.Node.{Node}
-use Rattle.surge.specs.State.{nodeOf}
 use Rattle.surge.specs.Equations.{riseOf}
 use Rattle.surge.specs.Passes.{Rising, rising, RisingFits, riseIn, levelIn}
 use Rattle.surge.proofs.stepping.elevation.rises.Statement.{statement}
