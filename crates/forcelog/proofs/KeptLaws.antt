@@ -11,7 +11,8 @@ use lib.Seq.{drop-length}
 use Rattle.lists.specs.Table.{table}
 use Rattle.lists.proofs.ScanLaws.{row-holds, same-number}
 use Rattle.limits.specs.Limits.{row11, row12Held}
-use Rattle.surge.specs.Lent.{N, After}
+use Rattle.mesh.specs.Lent.{N}
+use Rattle.surge.specs.Lent.{After}
 use Rattle.surge.specs.Open.{openAnswer, openOf}
 use Rattle.surge.specs.State.{rows1to10, windOf}
 use Rattle.surge.specs.Step.{Given, given, Rooms, advance, roomy, stepOf}

@@ -4,7 +4,7 @@ use lib.IntN.{pos}
 use lib.ListN.{replicate}
 use Rattle.lists.specs.Scan.{decimal}
 use Rattle.equations.specs.declared.Parameters.{Parameters}
-use Rattle.surge.specs.Lent.{Mesh, mesh}
+use Rattle.mesh.specs.Lent.{Mesh, mesh}
 
 -- "mesh T: (0,0), (100,0), (0,100), triangle 0 1 2, h 8, kinds 0"
 unfoldable pub T : Mesh

@@ -6,7 +6,7 @@ use lib.Dec.{eqb, ltb}
 use lib.ListN.{length, take, drop, replicate}
 use Rattle.lists.specs.declared.rows.Answer.{Answer}
 use Rattle.frames.specs.Frames.{lineFeed}
-use Rattle.surge.specs.Lent.{N, E}
+use Rattle.mesh.specs.Lent.{N, E}
 use Rattle.saves.specs.Save.{saveText}
 use Rattle.forcelog.specs.declared.Log.{Log}
 use Rattle.forcelog.specs.declared.Words.{Words}

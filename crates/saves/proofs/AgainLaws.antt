@@ -9,7 +9,8 @@ use Rattle.lists.specs.declared.rows.Answer.{Answer}
 use Rattle.lists.specs.Scan.{accepted}
 use Rattle.equations.specs.declared.Parameters.{Parameters}
 use Rattle.surge.specs.declared.Clock.{Clock}
-use Rattle.surge.specs.Lent.{Mesh, N, After, after}
+use Rattle.mesh.specs.Lent.{Mesh, N}
+use Rattle.surge.specs.Lent.{After, after}
 use Rattle.saves.specs.Held.{HeldState}
 use Rattle.saves.specs.Lines.{saveLength}
 use Rattle.saves.specs.Save.{wrote, saveOf}

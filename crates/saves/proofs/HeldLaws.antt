@@ -21,7 +21,8 @@ use Rattle.equations.specs.declared.Flow.{Flow}
 use Rattle.equations.specs.Elevation.{z′}
 use Rattle.equations.specs.Velocity.{flow, U′ as u′, V′ as v′}
 use Rattle.frames.proofs.BackLaws.{value-small}
-use Rattle.surge.specs.Lent.{N, coldState, coldClock}
+use Rattle.mesh.specs.Lent.{N}
+use Rattle.surge.specs.Lent.{coldState, coldClock}
 use Rattle.surge.specs.Equations.{node, riseOf, rise, flowOf, flowAt, U′, V′, nextState}
 use Rattle.surge.specs.Step.{Given, seaOf, advance}
 use Rattle.saves.specs.Held.{HeldClock, HeldState}

@@ -11,11 +11,12 @@ use Rattle.lists.specs.declared.rows.Answer.{Answer}
 use Rattle.lists.proofs.ScanLaws.{row-holds, row-passed, then-next, then-first, then-rest, scan-clean}
 use Rattle.equations.specs.declared.Parameters.{Parameters}
 use Rattle.surge.specs.declared.Clock.{Clock}
-use Rattle.surge.specs.Lent.{Mesh, N, After, after}
-use Rattle.surge.specs.Rows.{rows1to9}
+use Rattle.mesh.specs.Lent.{Mesh, N}
+use Rattle.surge.specs.Lent.{After, after}
+use Rattle.mesh.specs.Rows.{rows1to9}
 use Rattle.limits.specs.Limits.{inBounds, row12Held}
 use Rattle.surge.specs.State.{rows1to10, windOf}
-use Rattle.surge.proofs.AcceptedLaws.{accepted, accepted-rooms}
+use Rattle.mesh.proofs.AcceptedLaws.{accepted, accepted-rooms}
 use Rattle.surge.proofs.KeptLaws.{four-tables, four-long, in-bounds}
 use Rattle.saves.specs.Lines.{saveLength}
 use Rattle.saves.specs.Save.{row24, saveAnswer, wrote, saveOf}

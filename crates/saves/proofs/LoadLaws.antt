@@ -12,9 +12,10 @@ use Rattle.lists.specs.Runs.{isRuns}
 use Rattle.lists.proofs.ScanLaws.{same-number, other-number, stops, goes}
 use Rattle.equations.specs.declared.Parameters.{Parameters}
 use Rattle.surge.specs.declared.Clock.{Clock}
-use Rattle.surge.specs.Lent.{Mesh, N, E, after}
-use Rattle.surge.specs.Rows.{rows1to9}
-use Rattle.surge.proofs.AcceptedLaws.{accepted, accepted-rooms}
+use Rattle.mesh.specs.Lent.{Mesh, N, E}
+use Rattle.surge.specs.Lent.{after}
+use Rattle.mesh.specs.Rows.{rows1to9}
+use Rattle.mesh.proofs.AcceptedLaws.{accepted, accepted-rooms}
 use Rattle.saves.specs.Load.{clockOf, textRows, loadAnswer, loadedState, loadOf}
 
 module _ (m : Mesh) (p : Parameters) (t : List ℕ) (state : List Float) (k : Clock) where

@@ -20,10 +20,11 @@ use Rattle.lists.proofs.RunLaws.{room-of-runs}
 use Rattle.equations.specs.declared.Parameters.{Parameters}
 use Rattle.equations.specs.declared.Node.{Node}
 use Rattle.surge.specs.declared.Clock.{Clock}
-use Rattle.surge.specs.Lent.{Mesh, N, E, after}
+use Rattle.mesh.specs.Lent.{Mesh, N, E}
+use Rattle.surge.specs.Lent.{after}
 use Rattle.limits.specs.Limits.{inBounds, row12Held}
 use Rattle.surge.specs.State.{inRun, nodeOf, row10, rows1to10, windOf}
-use Rattle.surge.specs.Accepted.{Sized}
+use Rattle.mesh.specs.Accepted.{Sized}
 use Rattle.surge.proofs.StateLaws.{AcceptedRun, accepted-run}
 use Rattle.saves.specs.Held.{HeldClock, HeldState}
 use Rattle.saves.specs.Lines.{saveLength}

@@ -15,8 +15,9 @@ use Rattle.equations.specs.declared.Node.{Node}
 use Rattle.frames.specs.Frames.{byteOf}
 use Rattle.frames.specs.Reading.{value, fault}
 use Rattle.surge.specs.declared.Clock.{Clock}
-use Rattle.surge.specs.Lent.{Mesh, N, E, After, after}
-use Rattle.surge.specs.Rows.{rows1to9}
+use Rattle.mesh.specs.Lent.{Mesh, N, E}
+use Rattle.surge.specs.Lent.{After, after}
+use Rattle.mesh.specs.Rows.{rows1to9}
 use Rattle.limits.specs.Limits.{inBounds, row12Held}
 use Rattle.surge.specs.State.{windOf}
 use Rattle.saves.specs.Lines.{headLayout, nodeLayout, endLayout, layoutAt, due, startOf, saveLength}

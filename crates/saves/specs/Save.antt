@@ -10,7 +10,7 @@ use Rattle.lists.specs.Scan.{plus0, row, _then_}
 use Rattle.equations.specs.declared.Parameters.{Parameters}
 use Rattle.frames.specs.Frames.{Frame, text}
 use Rattle.surge.specs.declared.Clock.{Clock}
-use Rattle.surge.specs.Lent.{Mesh, N, E}
+use Rattle.mesh.specs.Lent.{Mesh, N, E}
 use Rattle.limits.specs.Limits.{row12Held}
 use Rattle.surge.specs.State.{rows1to10, windOf}
 use Rattle.saves.specs.Lines.{head, stateValues, nodeLine, end, saveLength}

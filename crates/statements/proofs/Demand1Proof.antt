@@ -8,7 +8,7 @@ use lib.Ieee.{Float}
 use Rattle.lists.proofs.ScanLaws.{then-stop, then-next}
 use Rattle.equations.specs.declared.Parameters.{Parameters}
 use Rattle.surge.specs.declared.Clock.{Clock}
-use Rattle.surge.specs.Lent.{Mesh, N}
+use Rattle.mesh.specs.Lent.{Mesh, N}
 use Rattle.surge.specs.Open.{openOf}
 use Rattle.surge.specs.Step.{Given, seaOf, Rooms, roomy, refusedBefore, refusedBy13, wentOn, stepOf}
 use Rattle.saves.specs.Save.{saveOf}

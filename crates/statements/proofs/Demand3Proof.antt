@@ -6,13 +6,14 @@ use mathlib.Core.List.{List}
 use borrow.Author.Tests.{eqb-true, eq-eqb}
 use lib.ListN.{length}
 use Rattle.equations.specs.declared.Parameters.{Parameters}
-use Rattle.surge.specs.Lent.{Mesh, N, After}
-use Rattle.surge.specs.Rows.{rows1to9}
+use Rattle.mesh.specs.Lent.{Mesh, N}
+use Rattle.surge.specs.Lent.{After}
+use Rattle.mesh.specs.Rows.{rows1to9}
 use Rattle.surge.specs.Open.{openAnswer, openOf}
 use Rattle.limits.specs.Limits.{row12Held}
 use Rattle.surge.specs.State.{rows1to10, windOf}
 use Rattle.surge.specs.Step.{Given, given, Held, StepOut, advance, Rooms}
-use Rattle.surge.proofs.AcceptedLaws.{accepted}
+use Rattle.mesh.proofs.AcceptedLaws.{accepted}
 use Rattle.surge.proofs.StepLaws.{not-last}
 use Rattle.surge.proofs.KeptLaws.{went-on, stayed, step-mesh, next-rows, next-wind, cold-rows, cold-wind, opened-mesh}
 use Rattle.saves.specs.Load.{loadedState}

@@ -83,8 +83,8 @@ use Rattle.saves.proofs.read_forcing.Kinds as read-forcing-kinds
 use Rattle.saves.proofs.read_forcing.Reads as read-forcing-reads
 use Rattle.saves.proofs.save.Kinds as save-kinds
 use Rattle.saves.proofs.save.Reads as save-reads
-use Rattle.surge.proofs.mesh.check.Kinds as check-kinds
-use Rattle.surge.proofs.mesh.check.Reads as check-reads
+use Rattle.mesh.proofs.check.Kinds as check-kinds
+use Rattle.mesh.proofs.check.Reads as check-reads
 use Rattle.saves.proofs.load.Kinds as load-kinds
 use Rattle.saves.proofs.load.Reads as load-reads
 use Rattle.surge.proofs.step.Kinds as step-kinds

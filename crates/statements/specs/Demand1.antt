@@ -13,7 +13,8 @@ use Rattle.lists.specs.Table.{table, zeros}
 use Rattle.lists.specs.Scan.{_then_}
 use Rattle.equations.specs.declared.Parameters.{Parameters}
 use Rattle.surge.specs.declared.Clock.{Clock}
-use Rattle.surge.specs.Lent.{Mesh, mesh, N, E, coldState, coldClock, After, after}
+use Rattle.mesh.specs.Lent.{Mesh, mesh, N, E}
+use Rattle.surge.specs.Lent.{coldState, coldClock, After, after}
 use Rattle.surge.specs.Open.{openAnswer}
 use Rattle.surge.specs.Step.{Given, given, seaOf, before13, row13, Rooms, lentRooms, roomy, StepOut, stepOut}
 use Rattle.saves.specs.declared.Taken.{Taken}

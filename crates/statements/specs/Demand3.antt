@@ -10,7 +10,8 @@ use Rattle.lists.specs.declared.rows.Answer.{Answer}
 use Rattle.equations.specs.declared.Parameters.{Parameters}
 use Rattle.surge.specs.declared.Clock.{Clock}
 use Rattle.surge.specs.declared.Forcing.{Forcing}
-use Rattle.surge.specs.Lent.{Mesh, N, coldState, coldClock}
+use Rattle.mesh.specs.Lent.{Mesh, N}
+use Rattle.surge.specs.Lent.{coldState, coldClock}
 use Rattle.surge.specs.Open.{openOf}
 use Rattle.surge.specs.Step.{given, Held, advance, Rooms, stepOf}
 use Rattle.saves.specs.Lines.{saveLength}

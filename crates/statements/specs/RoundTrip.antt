@@ -8,7 +8,8 @@ use lib.Ieee.{Float}
 use Rattle.lists.specs.Scan.{accepted}
 use Rattle.equations.specs.declared.Parameters.{Parameters}
 use Rattle.surge.specs.declared.Clock.{Clock}
-use Rattle.surge.specs.Lent.{Mesh, N, After, after}
+use Rattle.mesh.specs.Lent.{Mesh, N}
+use Rattle.surge.specs.Lent.{After, after}
 use Rattle.saves.specs.Lines.{saveLength}
 use Rattle.saves.specs.Save.{SaveOut, saveText, saveOf, wrote}
 use Rattle.saves.specs.Load.{loadOf}

@@ -29,13 +29,14 @@ use Rattle.equations.specs.Operations.{_⊕_}
 use Rattle.equations.specs.Constants.{tenth}
 use Rattle.equations.specs.Outcomes.{inSize, level, speed, answerOf}
 use Rattle.surge.specs.declared.Forcing.{Forcing}
-use Rattle.surge.specs.Lent.{Mesh, N, coldState, coldClock}
-use Rattle.surge.specs.Rows.{row1, row6If, rows1to9}
+use Rattle.mesh.specs.Lent.{Mesh, N}
+use Rattle.surge.specs.Lent.{coldState, coldClock}
+use Rattle.mesh.specs.Rows.{row1, row6If, rows1to9}
 use Rattle.limits.specs.Limits.{inBounds, row12Held, row12New}
 use Rattle.surge.specs.State.{inRun, nodeOf, row10, rows1to10, windOf}
 use Rattle.surge.specs.Equations.{Sea, count, node, rise, flowAt, U′, V′, nextState}
 use Rattle.surge.specs.Step.{Given, seaOf, row13Level, speedOf, row13Flow, row13, advance, before13, Rooms, roomy, StepOut, refusedBefore, refusedBy13, wentOn, stepsTo, stepOf}
-use Rattle.surge.proofs.AcceptedLaws.{accepted, accepted-rooms}
+use Rattle.mesh.proofs.AcceptedLaws.{accepted, accepted-rooms}
 use Rattle.surge.proofs.StateLaws.{bounds-held}
 
 -- ---- a step's outcome

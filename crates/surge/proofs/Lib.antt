@@ -1,7 +1,3 @@
-pub mod Sizes
-pub mod GeometryLaws
-pub mod RowLaws
-pub mod AcceptedLaws
 pub mod OpenLaws
 pub mod StateLaws
 pub mod PassLaws

@@ -13,8 +13,8 @@ use Rattle.equations.specs.declared.Outcome.{Outcome}
 use Rattle.equations.specs.declared.Outcome.the-variants.{Accepted, Elevation, Column, East, North}
 use Rattle.equations.specs.Outcomes.{level, east, north, answerOf}
 use Rattle.surge.specs.declared.Forcing.{Forcing}
-use Rattle.surge.specs.Lent.{Mesh}
-use Rattle.surge.specs.Rows.{row1, row2, row3, row4, row5, rows3to5, row6, row6If, row7, row8, rows1to9}
+use Rattle.mesh.specs.Lent.{Mesh}
+use Rattle.mesh.specs.Rows.{row1, row2, row3, row4, row5, rows3to5, row6, row6If, row7, row8, rows1to9}
 use Rattle.limits.specs.Limits.{row9, row11, row12Held, row12New}
 use Rattle.surge.specs.State.{row10, rows1to10}
 use Rattle.surge.specs.Equations.{Sea, count, node, rise, flowAt}

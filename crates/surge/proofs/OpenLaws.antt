@@ -13,9 +13,10 @@ use Rattle.lists.specs.Runs.{isRuns}
 use Rattle.lists.proofs.ScanLaws.{same-number}
 use Rattle.equations.specs.declared.Parameters.{Parameters}
 use Rattle.surge.specs.declared.Clock.{Clock}
-use Rattle.surge.specs.Lent.{Mesh, N, coldState, coldClock, after}
+use Rattle.mesh.specs.Lent.{Mesh, N}
+use Rattle.surge.specs.Lent.{coldState, coldClock, after}
 use Rattle.surge.specs.Open.{openAnswer, openOf}
-use Rattle.surge.proofs.AcceptedLaws.{accepted-rooms}
+use Rattle.mesh.proofs.AcceptedLaws.{accepted-rooms}
 
 module _ (m : Mesh) (p : Parameters) (state : List Float) (a : Answer) (k : Clock) (e : a ≡ openAnswer m p state) (q : k ≡ coldClock) where
   done : (now : List Float) → now ≡ cond (eqb (a .number) 0) (coldState (N m)) state → after (record { answer = a; clock = k }) now ≡ openOf m p state

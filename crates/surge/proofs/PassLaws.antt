@@ -17,8 +17,8 @@ use Rattle.lists.proofs.GatherLaws.{gather-none, gather-more, gathered-le}
 use Rattle.equations.specs.declared.Flow.{Flow}
 use Rattle.equations.specs.declared.Sides.{Sides}
 use Rattle.surge.specs.declared.stepping.velocity.Slope.{Slope}
-use Rattle.surge.specs.Lent.{corners}
-use Rattle.surge.specs.Geometry.{sides, area, floats}
+use Rattle.mesh.specs.Lent.{corners}
+use Rattle.mesh.specs.Geometry.{sides, area, floats}
 use Rattle.surge.specs.State.{nodeOf}
 use Rattle.surge.specs.Equations.{Sea, count, triangles, floating, sharesAt, flowOf, pushOf}
 use Rattle.surge.specs.Passes.{Ready, Sloping, SlopingFits, slopeOf, slopeIn, PxIn, PyIn, slopeRoom, Moving, flowIn, flowRoom}

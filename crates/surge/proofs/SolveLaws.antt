@@ -18,7 +18,7 @@ use Rattle.equations.specs.Outcomes.{level, answerOf}
 use Rattle.equations.specs.declared.Flow.{Flow}
 use Rattle.equations.specs.Operations.{_⊕_}
 use Rattle.equations.specs.Elevation.{slope}
-use Rattle.surge.specs.Lent.{corners}
+use Rattle.mesh.specs.Lent.{corners}
 use Rattle.surge.specs.State.{inRun, newWind}
 use Rattle.surge.specs.Equations.{count, triangles, node, floating, sidesAt, R, Sums, riseOf, rise, both, slopeX, slopeY, Px, Py, flowOf, pushOf, flowAt, U′, V′, nextState}
 use Rattle.surge.specs.Step.{speedOf, row13Level, row13Flow}

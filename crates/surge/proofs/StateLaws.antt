@@ -11,11 +11,11 @@ use Rattle.lists.specs.Runs.{isRuns}
 use Rattle.lists.proofs.ScanLaws.{row-holds, then-first, then-rest, scan-clean, both-left, both-right}
 use Rattle.equations.specs.declared.Parameters.{Parameters}
 use Rattle.limits.specs.Limits.{inBounds}
-use Rattle.surge.specs.Lent.{Mesh, N}
-use Rattle.surge.specs.Rows.{rows1to9}
+use Rattle.mesh.specs.Lent.{Mesh, N}
+use Rattle.mesh.specs.Rows.{rows1to9}
 use Rattle.surge.specs.State.{nodeOf, row10, rows1to10}
-use Rattle.surge.specs.Accepted.{Accepted}
-use Rattle.surge.proofs.AcceptedLaws.{accepted, accepted-rooms}
+use Rattle.mesh.specs.Accepted.{Accepted}
+use Rattle.mesh.proofs.AcceptedLaws.{accepted, accepted-rooms}
 
 module _ (h state : List Float) (i : ℕ) where
   pub bounds-held : inBounds (nodeOf h state i) ≡ true → row10 h state i .number ≡ 0

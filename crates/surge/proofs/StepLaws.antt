@@ -13,7 +13,7 @@ use Rattle.lists.specs.Table.{table, zeros}
 use Rattle.lists.specs.Runs.{isRuns}
 use Rattle.lists.proofs.ScanLaws.{row-passed, then-first, then-rest, same-number, other-number, both-left, both-right}
 use Rattle.surge.specs.declared.Clock.{Clock}
-use Rattle.surge.specs.Lent.{N}
+use Rattle.mesh.specs.Lent.{N}
 use Rattle.limits.specs.Limits.{row11}
 use Rattle.surge.specs.State.{advanced}
 use Rattle.surge.specs.Equations.{nextState}

@@ -1,7 +1,4 @@
 pub mod Lent
-pub mod Geometry
-pub mod Rows
-pub mod Accepted
 pub mod Open
 pub mod State
 pub mod Equations

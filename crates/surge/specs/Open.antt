@@ -7,8 +7,9 @@ use lib.Ieee.{Float}
 use Rattle.lists.specs.declared.rows.Answer.{Answer}
 use Rattle.lists.specs.Runs.{isRuns}
 use Rattle.equations.specs.declared.Parameters.{Parameters}
-use Rattle.surge.specs.Lent.{Mesh, N, coldState, coldClock, After, after}
-use Rattle.surge.specs.Rows.{rows1to9}
+use Rattle.mesh.specs.Lent.{Mesh, N}
+use Rattle.surge.specs.Lent.{coldState, coldClock, After, after}
+use Rattle.mesh.specs.Rows.{rows1to9}
 
 -- the answer: row 1 covers the state's 4N, and row 6 is tested
 unfoldable pub openAnswer : Mesh → Parameters → List Float → Answer

@@ -18,9 +18,9 @@ use Rattle.equations.specs.Elevation.{slope}
 use Rattle.equations.specs.Outcomes.{level, answerOf}
 use Rattle.surge.specs.declared.Forcing.{Forcing}
 use Rattle.surge.specs.declared.stepping.velocity.Slope.{Slope}
-use Rattle.surge.specs.Lent.{corners}
-use Rattle.surge.specs.Geometry.{sides, floats}
-use Rattle.surge.specs.Accepted.{Sound}
+use Rattle.mesh.specs.Lent.{corners}
+use Rattle.mesh.specs.Geometry.{sides, floats}
+use Rattle.mesh.specs.Accepted.{Sound}
 use Rattle.surge.specs.State.{inRun, nodeOf}
 use Rattle.surge.specs.Step.{speedOf}
 use Rattle.surge.specs.Equations.{Sea, count, triangles, floating, riseOf, flowOf, pushOf, rise, U′, V′}

@@ -13,8 +13,8 @@ use Rattle.equations.specs.declared.Wind.{Wind}
 use Rattle.limits.specs.Limits.{inBounds}
 use Rattle.surge.specs.declared.Clock.{Clock}
 use Rattle.surge.specs.declared.Forcing.{Forcing}
-use Rattle.surge.specs.Lent.{Mesh, N}
-use Rattle.surge.specs.Rows.{rows1to9}
+use Rattle.mesh.specs.Lent.{Mesh, N}
+use Rattle.mesh.specs.Rows.{rows1to9}
 
 -- place i of run k
 abbrev pub inRun : ℕ → ℕ → List Float → ℕ → Float

@@ -15,7 +15,7 @@ use Rattle.equations.specs.Outcomes.{level, east, north, answerOf}
 use Rattle.surge.specs.declared.Clock.{Clock}
 use Rattle.surge.specs.declared.Forcing.{Forcing}
 use Rattle.surge.specs.declared.Reply.{Reply}
-use Rattle.surge.specs.Lent.{Mesh, N}
+use Rattle.mesh.specs.Lent.{Mesh, N}
 use Rattle.limits.specs.Limits.{row11, row12Held, row12New}
 use Rattle.surge.specs.State.{rows1to10, windOf, newWind, advanced}
 use Rattle.surge.specs.Equations.{Sea, sea, count, node, rise, flowAt, nextState}

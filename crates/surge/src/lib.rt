@@ -1,5 +1,4 @@
 // The storm-surge run of document 01: the calls that are made on it, and what goes into them and comes back.
-pub mod mesh;
 pub mod stepping;
 
 use equations::Parameters;
@@ -7,7 +6,8 @@ use equations::Wind;
 use lists::rows::Answer;
 use lists::slices;
 ghost use mathlib.Core.Path.{_≡_};
-ghost use Rattle.surge.specs.Lent.{mesh, coldClock, after};
+ghost use Rattle.mesh.specs.Lent.{mesh};
+ghost use Rattle.surge.specs.Lent.{coldClock, after};
 ghost use Prim.Native.Nat.{_<_};
 ghost use Rattle.surge.specs.State.{windOf, advanced};
 ghost use Rattle.surge.specs.Step.{given, lentRooms, stepOut, stepOf};

@@ -6,7 +6,6 @@ pub(crate) mod velocity;
 
 use super::Clock;
 use super::Forcing;
-use super::mesh;
 use equations::Parameters;
 use equations::Wind;
 use lists::rows;
@@ -20,7 +19,7 @@ ghost use lib.Dec.{eqb};
 ghost use lib.ListN.{length};
 ghost use Rattle.lists.specs.Table.{table, zeros};
 ghost use Rattle.lists.specs.Runs.{run};
-ghost use Rattle.surge.specs.Lent.{mesh};
+ghost use Rattle.mesh.specs.Lent.{mesh};
 ghost use Rattle.surge.specs.State.{rows1to10};
 ghost use Rattle.surge.specs.Equations.{sea, count, nextState};
 ghost use Rattle.surge.specs.Step.{given, before13, row13};

@@ -3,8 +3,8 @@ use mathlib.Core.Bool.{Bool, false}
 use lib.ListN.{length}
 use Rattle.lists.specs.Runs.{isRuns}
 use Rattle.lists.proofs.ScanLaws.{same-number}
-use Rattle.surge.specs.Lent.{Mesh, mesh, N}
-use Rattle.surge.specs.Rows.{rows1to9}
+use Rattle.mesh.specs.Lent.{Mesh, mesh, N}
+use Rattle.mesh.specs.Rows.{rows1to9}
 use Rattle.saves.proofs.LoadLaws.{stopped, few, state-long, stopped-after, loaded}
 use borrow.Author.Needs.{needs}
 use Rattle.saves.proofs.load.Statement.{statement}

@@ -4,7 +4,7 @@ use native.Mathlib.Omega.{arith}
 use lib.Ieee.{ofBits}
 use Rattle.lists.specs.Scan.{_then_}
 use Rattle.lists.proofs.ScanLaws.{same-number}
-use Rattle.surge.specs.Lent.{Mesh, mesh, N}
+use Rattle.mesh.specs.Lent.{Mesh, mesh, N}
 use Rattle.limits.specs.Limits.{row12Held}
 use Rattle.surge.specs.State.{rows1to10, windOf}
 use Rattle.surge.proofs.StateLaws.{accepted-run}

@@ -3,8 +3,8 @@ use mathlib.Core.Logic.{⊎-elim}
 use mathlib.Core.Bool.{Bool, true}
 use lib.ListN.{length}
 use Rattle.lists.proofs.TableLaws.{length-table}
-use Rattle.surge.specs.Lent.{mesh}
-use Rattle.surge.specs.Rows.{rows1to9}
+use Rattle.mesh.specs.Lent.{mesh}
+use Rattle.mesh.specs.Rows.{rows1to9}
 use Rattle.surge.specs.Open.{openAnswer}
 use Rattle.surge.proofs.OpenLaws.{open-accepted, open-refused}
 use borrow.Author.Needs.{needs}

@@ -2,7 +2,7 @@ use mathlib.Core.Path.{_≡_, _∙_}
 use mathlib.Core.Bool.{_&&_}
 use native.Mathlib.Omega.{arith}
 use Rattle.lists.proofs.ScanLaws.{same-number}
-use Rattle.surge.specs.Lent.{mesh, N}
+use Rattle.mesh.specs.Lent.{mesh, N}
 use Rattle.surge.specs.Step.{Given, given, Rooms, lentRooms, roomy, before13}
 use Rattle.surge.proofs.StepLaws.{stopped, solving-fits, next-long, work-long, sums-long, not-last, by-13, went-on}
 use borrow.Author.Needs.{needs}

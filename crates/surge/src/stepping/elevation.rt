@@ -1,8 +1,8 @@
 // "Elevation": R and S of every node in one pass over the triangles, then z'.
 use super::super::Forcing;
-use super::super::mesh::geometry;
-use super::super::mesh::geometry::Corners;
-use super::super::mesh::geometry::WholeSides;
+use mesh::geometry;
+use mesh::geometry::Corners;
+use mesh::geometry::WholeSides;
 use super::state;
 use super::sums;
 use equations::Node;
@@ -24,7 +24,7 @@ ghost use Rattle.lists.specs.Scan.{scan, clean};
 ghost use Rattle.lists.specs.Gather.{Below};
 ghost use Rattle.equations.specs.Elevation.{shares};
 ghost use Rattle.equations.specs.Outcomes.{level, answerOf};
-ghost use Rattle.surge.specs.Geometry.{nodesOf, D, allNear, floats};
+ghost use Rattle.mesh.specs.Geometry.{nodesOf, D, allNear, floats};
 ghost use Rattle.surge.specs.State.{nodeOf};
 ghost use Rattle.surge.specs.Equations.{Sea, sea, count, R, Sums, rise, riseOf};
 ghost use Rattle.surge.specs.Passes.{Ready, Rising, rising, RisingFits, riseIn, heightAt, levelIn, Solving, solving, SolvingFits, risenRoom};

@@ -1,12 +1,12 @@
 // Sums by node: a triangle's values are added at its three corners.
-use super::super::mesh::geometry::Corners;
+use mesh::geometry::Corners;
 use equations::Shares;
 ghost use mathlib.Core.Path.{_≡_};
 ghost use Prim.Native.Nat.{ℕ, _+_, _*_, _^_, _<_};
 ghost use lib.ListN.{length, getD};
 ghost use lib.Ieee.{nan};
 ghost use Rattle.lists.specs.Gather.{Below, alike, whole, addedAt, spread};
-ghost use Rattle.surge.specs.Geometry.{nodesOf};
+ghost use Rattle.mesh.specs.Geometry.{nodesOf};
 ghost use Rattle.surge.specs.Equations.{threeOf, floating};
 
 // Adds a value at one place.

@@ -1,7 +1,7 @@
 // "Velocity": Px and Py of every node in one pass over the triangles, then U' and V'.
 use super::super::Forcing;
-use super::super::mesh::geometry;
-use super::super::mesh::geometry::Corners;
+use mesh::geometry;
+use mesh::geometry::Corners;
 use super::state;
 use super::sums;
 use equations::Flow;
@@ -24,7 +24,7 @@ ghost use Rattle.lists.specs.Table.{table};
 ghost use Rattle.lists.specs.Runs.{run, room};
 ghost use Rattle.lists.specs.Scan.{scan, clean};
 ghost use Rattle.lists.specs.Gather.{Below, alike, spread};
-ghost use Rattle.surge.specs.Geometry.{nodesOf};
+ghost use Rattle.mesh.specs.Geometry.{nodesOf};
 ghost use Rattle.surge.specs.State.{nodeOf};
 ghost use Rattle.surge.specs.Equations.{sea, count, Sums, floating, threeOf, flowOf, pushOf};
 ghost use Rattle.surge.specs.Step.{speedOf, row13Flow};

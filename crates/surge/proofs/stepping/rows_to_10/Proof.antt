@@ -7,10 +7,10 @@ use lib.ListN.{length}
 use Rattle.lists.specs.Runs.{isRuns}
 use Rattle.lists.specs.Scan.{scan}
 use Rattle.lists.proofs.ScanLaws.{same-number, stops, goes, both-left}
-use Rattle.surge.specs.Lent.{Mesh, mesh, N}
-use Rattle.surge.specs.Rows.{rows1to9}
+use Rattle.mesh.specs.Lent.{Mesh, mesh, N}
+use Rattle.mesh.specs.Rows.{rows1to9}
 use Rattle.surge.specs.State.{row10, rows1to10}
-use Rattle.surge.proofs.AcceptedLaws.{accepted, accepted-rooms}
+use Rattle.mesh.proofs.AcceptedLaws.{accepted, accepted-rooms}
 use Rattle.surge.proofs.stepping.rows_to_10.Statement.{statement}
 use Rattle.surge.proofs.stepping.rows_to_10.Tie as tie
 

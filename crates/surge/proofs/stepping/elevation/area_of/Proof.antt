@@ -3,8 +3,8 @@ use native.Mathlib.Omega.{arith}
 use lib.Dec.{T}
 use lib.IntN.{ℤ, natAbs}
 use lib.Signed.{nonNeg}
-use Rattle.surge.proofs.Sizes.{kept}
-use Rattle.surge.proofs.GeometryLaws.{all-small}
+use Rattle.mesh.proofs.SizeLaws.{kept}
+use Rattle.mesh.proofs.GeometryLaws.{all-small}
 use borrow.Author.Needs.{needs}
 use Rattle.surge.proofs.stepping.elevation.area_of.Statement.{statement}
 use Rattle.surge.proofs.stepping.elevation.area_of.Tie as tie

@@ -8,10 +8,10 @@ use lib.ListN.{length}
 use Rattle.lists.specs.Table.{table}
 use Rattle.lists.specs.Gather.{Below}
 use Rattle.lists.proofs.TableLaws.{length-table}
-use Rattle.surge.specs.declared.mesh.geometry.WholeSides.{WholeSides}
-use Rattle.surge.specs.Lent.{corners}
-use Rattle.surge.specs.Geometry.{nodesOf, sides, D, allNear, area, floats}
-use Rattle.surge.specs.Accepted.{Sound}
+use Rattle.mesh.specs.declared.geometry.WholeSides.{WholeSides}
+use Rattle.mesh.specs.Lent.{corners}
+use Rattle.mesh.specs.Geometry.{nodesOf, sides, D, allNear, area, floats}
+use Rattle.mesh.specs.Accepted.{Sound}
 use Rattle.equations.specs.Elevation.{shares}
 use Rattle.surge.specs.Equations.{Sea, sea, count, triangles, node, threeOf, sharesAt}
 use Rattle.surge.specs.Passes.{Ready}

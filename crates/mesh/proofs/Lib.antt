@@ -1,0 +1,4 @@
+pub mod SizeLaws
+pub mod GeometryLaws
+pub mod RowLaws
+pub mod AcceptedLaws
