@@ -5,7 +5,8 @@ use Rattle.lists.specs.Table.{table, zeros}
 use Rattle.lists.specs.Scan.{accepted, row, _then_, scan, some, within, decimal, minus}
 use Rattle.limits.specs.Limits.{isSound, row9}
 use Rattle.surge.specs.Lent.{coldState, coldClock, after}
-use Rattle.mesh.specs.Geometry.{sides, allNear}
+use Rattle.mesh.specs.Geometry.{sides}
+use Rattle.geometry.specs.Geometry.{allNear}
 use Rattle.mesh.specs.Rows.{row1, row2, allBelow, row3, row4, row5, rows3to5, isLeg, row6, row6If, isNamed, row7, row8, rows1to9}
 use Rattle.surge.specs.Open.{openAnswer, openOf}
 use Rattle.forcelog.specs.MeshT.{T, T-parameters}

@@ -17,11 +17,12 @@ use Rattle.lists.proofs.ScanLaws.{row-passed, then-first, then-rest, then-assoc
 use Rattle.lists.proofs.GatherLaws.{gathered-le}
 use Rattle.equations.specs.declared.Parameters.{Parameters}
 use Rattle.mesh.specs.Lent.{Mesh, N, E, corner, corners}
-use Rattle.mesh.specs.Geometry.{sides, D, allNear, area, S}
+use Rattle.mesh.specs.Geometry.{sides, area, S}
+use Rattle.geometry.specs.Geometry.{D, allNear}
 use Rattle.limits.specs.Limits.{isSound, row9}
 use Rattle.mesh.specs.Rows.{allBelow, row1, row2, row3, row4, row5, rows3to5, row6If, row7, row8, rows1to9}
 use Rattle.mesh.specs.Accepted.{Sized, Sound, Kept, Ranged, Accepted}
-use Rattle.mesh.proofs.GeometryLaws.{all-small}
+use Rattle.geometry.proofs.GeometryLaws.{all-small}
 use Rattle.mesh.proofs.RowLaws.{below-all}
 
 -- ---- rows 1 and 2

@@ -1,4 +1,3 @@
-pub mod SizeLaws
-pub mod GeometryLaws
 pub mod RowLaws
 pub mod AcceptedLaws
+pub mod SideLaws

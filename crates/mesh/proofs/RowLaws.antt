@@ -17,7 +17,8 @@ use Rattle.lists.specs.Gather.{Three, Below}
 use Rattle.lists.specs.Scan.{refused, row, _then_, some}
 use Rattle.lists.proofs.ScanLaws.{row-holds, row-fails, both-left, both-right, some-none, some-hit, some-more}
 use Rattle.mesh.specs.Lent.{corner, corners}
-use Rattle.mesh.specs.Geometry.{nth, sides, D, allNear}
+use Rattle.geometry.specs.Geometry.{nth, D, allNear}
+use Rattle.mesh.specs.Geometry.{sides}
 use Rattle.mesh.specs.Rows.{allBelow, row3, row4, row5, rows3to5, isLeg, legSeen, row6, isNamed, row7}
 
 -- ---- rows 3 to 5

@@ -10,7 +10,8 @@ use Rattle.lists.specs.Gather.{Below}
 use Rattle.lists.specs.Scan.{within, decimal, minus}
 use Rattle.equations.specs.declared.Parameters.{Parameters}
 use Rattle.mesh.specs.Lent.{Mesh, N, E, corners}
-use Rattle.mesh.specs.Geometry.{sides, D, allNear, area, S}
+use Rattle.mesh.specs.Geometry.{sides, area, S}
+use Rattle.geometry.specs.Geometry.{D, allNear}
 use Rattle.mesh.specs.Rows.{isNamed}
 
 -- rows 1 and 2: the lengths and the counts

@@ -13,7 +13,8 @@ use Rattle.lists.specs.Gather.{Three}
 use Rattle.equations.specs.declared.Parameters.{Parameters}
 use Rattle.limits.specs.Limits.{isSound, row9}
 use Rattle.mesh.specs.Lent.{Mesh, N, E, corner, corners}
-use Rattle.mesh.specs.Geometry.{sides, D, allNear}
+use Rattle.mesh.specs.Geometry.{sides}
+use Rattle.geometry.specs.Geometry.{D, allNear}
 
 -- | 1 | triangle list no multiple of 3, or a slice of another length |. rooms: the call's other slices have their lengths
 unfoldable pub row1 : Bool → Mesh → Answer

@@ -1,6 +1,6 @@
 // The mesh: rows 1 to 9 of the refusal table, in the document's order.
-pub mod geometry;
 pub(crate) mod nodes;
+pub(crate) mod reading;
 pub(crate) mod triangles;
 
 use equations::Parameters;

@@ -1,5 +1,5 @@
 // Rows 7 and 8: the nodes.
-use super::geometry;
+use super::reading;
 use lists::rows;
 use lists::rows::Answer;
 ghost use mathlib.Core.Path.{_≡_};
@@ -16,7 +16,7 @@ fn marks(tri: &[u16]) -> [bool; 4096]
 {
     let mut seen = [false; 4096];
     for j in 0..tri.len() {
-        let node = geometry::node_at(tri, j);
+        let node = reading::node_at(tri, j);
         seen[node] = true;
     }
     seen

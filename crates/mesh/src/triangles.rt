@@ -1,6 +1,6 @@
 // Rows 3 to 6: the triangles.
-use super::geometry;
-use super::geometry::Corners;
+use super::reading;
+use geometry::Corners;
 use lists::rows;
 use lists::rows::Answer;
 ghost use mathlib.Core.Path.{_≡_};
@@ -8,7 +8,7 @@ ghost use Prim.Native.Nat.{_+_, _*_, _/_, _%_, _<_};
 ghost use lib.ListN.{length};
 ghost use Rattle.lists.specs.Gather.{Below};
 ghost use Rattle.lists.specs.Scan.{scan};
-ghost use Rattle.mesh.specs.Geometry.{nodesOf, nth};
+ghost use Rattle.geometry.specs.Geometry.{nodesOf, nth};
 ghost use Rattle.mesh.specs.Rows.{rows3to5, isLeg, row6, row6If};
 
 // Rows 3, 4 and 5 of triangle t.
@@ -17,9 +17,9 @@ fn shape(x: &[i32], y: &[i32], tri: &[u16], t: usize) -> Answer
     ensures { λ r. ⌜ r ≡ rows3to5 (now (x .entry)) (now (y .entry)) (now (tri .entry)) t ⌝ }
 {
     let n = x.len();
-    let c = geometry::corners_at(tri, t);
+    let c = reading::corners_at(tri, t);
     if (c.n1 < n) & (c.n2 < n) & (c.n3 < n) {
-        let s = geometry::sides_at(x, y, c);
+        let s = geometry::sides_of(reading::places_at(x, y, c));
         if geometry::all_near(s) {
             rows::tested(0 < geometry::twice_area(s), 5, t)
         } else {
@@ -75,10 +75,10 @@ fn legs(tri: &[u16]) -> Answer
     let e = tri.len() / 3;
     let mut t = 0;
     'pairs: while t < e {
-        let its = geometry::corners_at(tri, t);
+        let its = reading::corners_at(tri, t);
         let mut s = 0;
         while s < t {
-            let c = geometry::corners_at(tri, s);
+            let c = reading::corners_at(tri, s);
             let mut j = 0;
             while j < 3 {
                 if leg_seen(its, j, c) {

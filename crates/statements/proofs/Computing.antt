@@ -11,7 +11,8 @@ use Rattle.frames.specs.Bytes.{digit, digits, byte, bytes, worth, allDigits, fi
 use Rattle.frames.specs.Frames.{text, fieldBytes, checked}
 use Rattle.frames.specs.Reading.{value, isFramed, row20, row21, row22, fault}
 use Rattle.limits.specs.Limits.{isSound, row9, inBounds, row11, row12Held, row12New}
-use Rattle.mesh.specs.Geometry.{sides, allNear, area, floats}
+use Rattle.mesh.specs.Geometry.{sides, area}
+use Rattle.geometry.specs.Geometry.{allNear, floats}
 use Rattle.mesh.specs.Rows.{row1, row2, allBelow, row3, row4, row5, rows3to5, isLeg, row6, row6If, isNamed, row7, row8, rows1to9}
 use Rattle.surge.specs.Open.{openAnswer, openOf}
 use Rattle.surge.specs.State.{row10, rows1to10}

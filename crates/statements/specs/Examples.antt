@@ -8,12 +8,13 @@ use Rattle.lists.specs.declared.rows.Answer.{Answer}
 use Rattle.lists.specs.Table.{table, zeros}
 use Rattle.lists.specs.Scan.{plus0, accepted, refused, decimal}
 use Rattle.equations.specs.declared.Parameters.{Parameters}
-use Rattle.mesh.specs.declared.geometry.WholeSides.{WholeSides}
+use Rattle.geometry.specs.declared.WholeSides.{WholeSides}
 use Rattle.frames.specs.Bytes.{bytes, sum}
 use Rattle.frames.specs.Frames.{text}
 use Rattle.mesh.specs.Lent.{Mesh, mesh, N, corners}
 use Rattle.surge.specs.Lent.{coldState, coldClock}
-use Rattle.mesh.specs.Geometry.{sides, D}
+use Rattle.mesh.specs.Geometry.{sides}
+use Rattle.geometry.specs.Geometry.{D}
 use Rattle.surge.specs.Open.{openAnswer}
 use Rattle.surge.specs.Step.{given, Rooms, lentRooms, stepOf}
 use Rattle.saves.specs.Lines.{head, end}

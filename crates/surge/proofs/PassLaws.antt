@@ -18,7 +18,8 @@ use Rattle.equations.specs.declared.Flow.{Flow}
 use Rattle.equations.specs.declared.Sides.{Sides}
 use Rattle.surge.specs.declared.stepping.velocity.Slope.{Slope}
 use Rattle.mesh.specs.Lent.{corners}
-use Rattle.mesh.specs.Geometry.{sides, area, floats}
+use Rattle.mesh.specs.Geometry.{sides, area}
+use Rattle.geometry.specs.Geometry.{floats}
 use Rattle.surge.specs.State.{nodeOf}
 use Rattle.surge.specs.Equations.{Sea, count, triangles, floating, sharesAt, flowOf, pushOf}
 use Rattle.surge.specs.Passes.{Ready, Sloping, SlopingFits, slopeOf, slopeIn, PxIn, PyIn, slopeRoom, Moving, flowIn, flowRoom}

@@ -22,7 +22,8 @@ use Rattle.equations.specs.Elevation.{shares, slope, z*, L, z′}
 use Rattle.equations.specs.Velocity.{flow}
 use Rattle.surge.specs.declared.Forcing.{Forcing}
 use Rattle.mesh.specs.Lent.{corners}
-use Rattle.mesh.specs.Geometry.{sides, floats, S}
+use Rattle.mesh.specs.Geometry.{sides, S}
+use Rattle.geometry.specs.Geometry.{floats}
 use Rattle.surge.specs.State.{nodeOf, newWind}
 
 -- ---- single values

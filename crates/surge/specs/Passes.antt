@@ -19,7 +19,8 @@ use Rattle.equations.specs.Outcomes.{level, answerOf}
 use Rattle.surge.specs.declared.Forcing.{Forcing}
 use Rattle.surge.specs.declared.stepping.velocity.Slope.{Slope}
 use Rattle.mesh.specs.Lent.{corners}
-use Rattle.mesh.specs.Geometry.{sides, floats}
+use Rattle.mesh.specs.Geometry.{sides}
+use Rattle.geometry.specs.Geometry.{floats}
 use Rattle.mesh.specs.Accepted.{Sound}
 use Rattle.surge.specs.State.{inRun, nodeOf}
 use Rattle.surge.specs.Step.{speedOf}

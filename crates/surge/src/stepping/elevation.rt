@@ -24,7 +24,7 @@ ghost use Rattle.lists.specs.Scan.{scan, clean};
 ghost use Rattle.lists.specs.Gather.{Below};
 ghost use Rattle.equations.specs.Elevation.{shares};
 ghost use Rattle.equations.specs.Outcomes.{level, answerOf};
-ghost use Rattle.mesh.specs.Geometry.{nodesOf, D, allNear, floats};
+ghost use Rattle.geometry.specs.Geometry.{nodesOf, D, allNear, floats};
 ghost use Rattle.surge.specs.State.{nodeOf};
 ghost use Rattle.surge.specs.Equations.{Sea, sea, count, R, Sums, rise, riseOf};
 ghost use Rattle.surge.specs.Passes.{Ready, Rising, rising, RisingFits, riseIn, heightAt, levelIn, Solving, solving, SolvingFits, risenRoom};

@@ -6,7 +6,7 @@ ghost use Prim.Native.Nat.{ℕ, _+_, _*_, _^_, _<_};
 ghost use lib.ListN.{length, getD};
 ghost use lib.Ieee.{nan};
 ghost use Rattle.lists.specs.Gather.{Below, alike, whole, addedAt, spread};
-ghost use Rattle.mesh.specs.Geometry.{nodesOf};
+ghost use Rattle.geometry.specs.Geometry.{nodesOf};
 ghost use Rattle.surge.specs.Equations.{threeOf, floating};
 
 // Adds a value at one place.

@@ -24,7 +24,7 @@ ghost use Rattle.lists.specs.Table.{table};
 ghost use Rattle.lists.specs.Runs.{run, room};
 ghost use Rattle.lists.specs.Scan.{scan, clean};
 ghost use Rattle.lists.specs.Gather.{Below, alike, spread};
-ghost use Rattle.mesh.specs.Geometry.{nodesOf};
+ghost use Rattle.geometry.specs.Geometry.{nodesOf};
 ghost use Rattle.surge.specs.State.{nodeOf};
 ghost use Rattle.surge.specs.Equations.{sea, count, Sums, floating, threeOf, flowOf, pushOf};
 ghost use Rattle.surge.specs.Step.{speedOf, row13Flow};

@@ -7,11 +7,14 @@ use lib.Signed.{ltZ}
 use lib.ListN.{length}
 use Rattle.lists.specs.Gather.{Three}
 use Rattle.lists.specs.Scan.{row}
-use Rattle.mesh.specs.declared.geometry.WholeSides.{WholeSides}
+use Rattle.geometry.specs.declared.WholeSides.{WholeSides}
 use Rattle.mesh.specs.Lent.{corners}
-use Rattle.mesh.specs.Geometry.{nodesOf, sides, D, allNear}
+use Rattle.geometry.specs.Geometry.{nodesOf, allNear, nearD}
+use Rattle.mesh.specs.Geometry.{sides}
 use Rattle.mesh.specs.Rows.{allBelow}
-use Rattle.mesh.proofs.SizeLaws.{kept}
+use Rattle.geometry.proofs.SizeLaws.{kept}
+use Rattle.geometry.proofs.GeometryLaws.{near-D}
+use Rattle.mesh.proofs.SideLaws.{sides-read}
 use Rattle.mesh.proofs.RowLaws.{below-all, shape-3, shape-4, shape-5}
 use Rattle.mesh.proofs.triangles.shape.Statement.{statement}
 use Rattle.mesh.proofs.triangles.shape.Tie as tie
@@ -32,26 +35,29 @@ outside c = c .if1 .left
 here : (c : tie.Then1) → let a = c .before .before .before .before .before .before .args in allBelow (corners (a .tri .now) (a .t)) (length (a .x .now)) ≡ true
 here c = subst (λ (k : Three ℕ). allBelow k (length (c .before .before .before .before .before .before .args .x .now)) ≡ true) (same (c .before .before .before .before)) (inside c)
 
-its-sides : (c : tie.After-sides-at) → let a = c .before .before .before .before .before .before .before .args in c .sides-at .result ≡ sides (a .x .now) (a .y .now) (corners (a .tri .now) (a .t))
+its-sides : (c : tie.After-sides-of) → let a = c .before .before .before .before .before .before .before .before .args in c .sides-of .result ≡ sides (a .x .now) (a .y .now) (corners (a .tri .now) (a .t))
 its-sides c =
-    let a = c .before .before .before .before .before .before .before .args in
-    c .sides-at .ensures ∙ ap (sides (a .x .now) (a .y .now)) (same (c .before .before .before .before .before))
+    let a = c .before .before .before .before .before .before .before .before .args in
+    c .sides-of .ensures ∙ sides-read (a .x .now) (a .y .now) _ _ _ (c .before .places-at .ensures) (same (c .before .before .before .before .before .before))
 
 -- what was tested of the sides
-sized : (c : tie.After-all-near) (b : Bool) → c .all-near .result ≡ b → let a = c .before .before .before .before .before .before .before .before .args in allNear (sides (a .x .now) (a .y .now) (corners (a .tri .now) (a .t))) ≡ b
+sized : (c : tie.After-all-near) (b : Bool) → c .all-near .result ≡ b → let a = c .before .before .before .before .before .before .before .before .before .args in allNear (sides (a .x .now) (a .y .now) (corners (a .tri .now) (a .t))) ≡ b
 sized c b e = ap allNear (sym (its-sides (c .before))) ∙ sym (c .all-near .ensures) ∙ e
 
 corners-at-requires : tie.Need-corners-at-requires
 corners-at-requires c κs = search needs
 
-sides-at-requires : tie.Need-sides-at-requires
-sides-at-requires c κs = (c .before .before .before .before .before .before .pre .0, below-all _ _ (inside c))
+places-at-requires : tie.Need-places-at-requires
+places-at-requires c κs = (c .before .before .before .before .before .before .pre .0, below-all _ _ (inside c))
+
+sides-of-requires : tie.Need-sides-of-requires
+sides-of-requires c κs = search needs
 
 all-near-requires : tie.Need-all-near-requires
 all-near-requires c κs = search needs
 
 twice-area-requires : tie.Need-twice-area-requires
-twice-area-requires c κs = sym (c .before .all-near .ensures) ∙ c .if2 .taken
+twice-area-requires c κs = search needs
 
 tested-requires : tie.Need-tested-requires
 tested-requires c κs = search needs
@@ -65,15 +71,17 @@ refuse-requires-2 c κs = search needs
 returns : tie.Need-returns
 returns c =
     let near = c .before .before .before in
-    let d = kept (c .before .twice-area .ok) (c .before .twice-area .ensures ∙ ap (λ (s : WholeSides). D s) (its-sides (near .before))) in
+    let e = its-sides (near .before) in
+    let n = sized near true (c .before .before .if2 .taken) in
+    let d = kept (c .before .twice-area .ok) (c .before .twice-area .ensures ∙ ap nearD e ∙ near-D _ n) in
     c .tested .ensures
-    ∙ ap (λ (v : ℤ). row (ltZ (pos 0) v) 5 (near .before .before .before .before .before .before .before .before .args .t)) d
-    ∙ sym (shape-5 _ _ _ _ (here (near .before .before)) (sized near true (c .before .before .if2 .taken)))
+    ∙ ap (λ (v : ℤ). row (ltZ (pos 0) v) 5 (near .before .before .before .before .before .before .before .before .before .args .t)) d
+    ∙ sym (shape-5 _ _ _ _ (here (near .before .before .before)) n)
 
 returns-2 : tie.Need-returns-2
 returns-2 c =
     let near = c .before .before in
-    c .refuse .ensures ∙ sym (shape-4 _ _ _ _ (here (near .before .before)) (sized near false (c .before .if2 .left)))
+    c .refuse .ensures ∙ sym (shape-4 _ _ _ _ (here (near .before .before .before)) (sized near false (c .before .if2 .left)))
 
 returns-3 : tie.Need-returns-3
 returns-3 c =
@@ -86,7 +94,8 @@ shape-spec =
     tie.close
     (tie.spec
     corners-at-requires
-    sides-at-requires
+    places-at-requires
+    sides-of-requires
     all-near-requires
     twice-area-requires
     tested-requires

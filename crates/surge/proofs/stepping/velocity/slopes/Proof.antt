@@ -7,7 +7,8 @@ use lib.ListN.{length}
 use Rattle.lists.specs.Runs.{run}
 use Rattle.lists.specs.Gather.{Below}
 use Rattle.mesh.specs.Lent.{corners}
-use Rattle.mesh.specs.Geometry.{nodesOf, sides, allNear, floats}
+use Rattle.geometry.specs.Geometry.{nodesOf, allNear, floats}
+use Rattle.mesh.specs.Geometry.{sides}
 use Rattle.surge.specs.Passes.{Sloping, sloping, SlopingFits, slopeRoom}
 use Rattle.surge.proofs.PassLaws.{slope-long, slope-more}
 use Rattle.surge.proofs.stepping.velocity.slopes.Statement.{statement}

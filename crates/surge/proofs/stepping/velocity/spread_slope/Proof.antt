@@ -5,7 +5,7 @@ use lib.Ieee.{nan}
 use Rattle.lists.specs.Runs.{run, room}
 use Rattle.lists.specs.Gather.{spread}
 use Rattle.lists.proofs.GatherLaws.{length-spread}
-use Rattle.mesh.specs.Geometry.{nodesOf}
+use Rattle.geometry.specs.Geometry.{nodesOf}
 use Rattle.surge.specs.Equations.{floating}
 use Rattle.surge.proofs.RoomLaws.{second-part, third-part, two-parts, second-long}
 use borrow.Author.Needs.{needs}

@@ -1,8 +1,8 @@
 use mir.Syntax.{w64}
 use mir.Facts.{toZ-ofZ}
-use Rattle.mesh.proofs.SizeLaws.{size-test}
-use Rattle.mesh.proofs.geometry.is_near.Statement.{statement}
-use Rattle.mesh.proofs.geometry.is_near.Tie as tie
+use Rattle.geometry.proofs.SizeLaws.{size-test}
+use Rattle.geometry.proofs.is_near.Statement.{statement}
+use Rattle.geometry.proofs.is_near.Tie as tie
 
 returns : tie.Need-returns
 returns c = rw (toZ-ofZ {w = w64} (c .fits .v)) (size-test 99999 (c .args .v))

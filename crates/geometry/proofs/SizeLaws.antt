@@ -22,7 +22,7 @@ mag-le (negsuc n) = omega arith
 pub holds : (w : Width) (z : ℤ) → natAbs z < 2 ^ hbits w → SFits w z
 holds w z h = record { sfits = lt-of-le-of-lt (mag-le z) h }
 
-held-size : (w : Width) (z : ℤ) → SFits w z → natAbs z ≤ 2 ^ hbits w
+pub held-size : (w : Width) (z : ℤ) → SFits w z → natAbs z ≤ 2 ^ hbits w
 held-size w (pos n) h = let k = h .sfits in omega arith
 held-size w (negsuc n) h = h .sfits
 
@@ -96,3 +96,9 @@ in-float (negsuc n) h = lt→ltb n (2 ^ 53) h
 pub lossless : (z : ℤ) → natAbs z ≤ 2 ^ 53 → toSigned 63 (ofInt binary64 z) ≡ z
 lossless (pos n) h = positive-back binary64 63 n (in-float (pos n) h) (omega arith) .1
 lossless (negsuc n) h = negative-back binary64 63 n (in-float (negsuc n) h) (omega arith) .1
+
+-- ---- a difference of two 32-bit fields, as a call was handed them and handed it on
+pub gap-kept : {r : ℤ} (x y : ℤ) → mag r < 2 ^ 63 → mag x < 2 ^ 31 → mag y < 2 ^ 31 → r ≡ toZ w32 (ofZ w32 x) -ℤ toZ w32 (ofZ w32 y)
+    → toZ w64 (ofZ w64 r) ≡ x -ℤ y
+gap-kept x y ok fx fy e =
+    kept ok (e ∙ (λ i. toZ-ofZ {w = w32} {z = x} (record { sfits = fx }) i -ℤ toZ-ofZ {w = w32} {z = y} (record { sfits = fy }) i))

@@ -6,10 +6,10 @@ use lib.IntN.{ℤ}
 use lib.Signed.{mag}
 use mir.Syntax.{w64}
 use mir.Val.{toZ, ofZ}
-use Rattle.mesh.specs.Geometry.{near, allNear}
-use Rattle.mesh.proofs.SizeLaws.{kept}
-use Rattle.mesh.proofs.geometry.all_near.Statement.{statement}
-use Rattle.mesh.proofs.geometry.all_near.Tie as tie
+use Rattle.geometry.specs.Geometry.{near, allNear}
+use Rattle.geometry.proofs.SizeLaws.{kept}
+use Rattle.geometry.proofs.all_near.Statement.{statement}
+use Rattle.geometry.proofs.all_near.Tie as tie
 
 is-near-requires : tie.Need-is-near-requires
 is-near-requires c κs = search needs

@@ -3,8 +3,8 @@ use mathlib.Core.Path.{sym, ap, _∙_}
 use Prim.Native.Nat.{ℕ}
 use native.Mathlib.Nat.{add-zero}
 use lib.ListN.{getD}
-use Rattle.mesh.proofs.geometry.corners_at.Statement.{statement}
-use Rattle.mesh.proofs.geometry.corners_at.Tie as tie
+use Rattle.mesh.proofs.reading.corners_at.Statement.{statement}
+use Rattle.mesh.proofs.reading.corners_at.Tie as tie
 
 mul-node-at : tie.Need-mul-node-at
 mul-node-at c = search needs

@@ -1,7 +1,7 @@
 use native.Mathlib.Omega.{arith}
 use borrow.Author.Needs.{needs}
-use Rattle.mesh.proofs.geometry.node_at.Statement.{statement}
-use Rattle.mesh.proofs.geometry.node_at.Tie as tie
+use Rattle.mesh.proofs.reading.node_at.Statement.{statement}
+use Rattle.mesh.proofs.reading.node_at.Tie as tie
 
 mul-result : tie.Need-mul-result
 mul-result c = search needs
