@@ -5,7 +5,7 @@ use lib.Ieee.{Float}
 use Rattle.lists.specs.declared.rows.Answer.{Answer}
 use Rattle.equations.specs.declared.Parameters.{Parameters}
 use Rattle.surge.specs.declared.Clock.{Clock}
-use Rattle.surge.specs.declared.Forcing.{Forcing}
+use Rattle.equations.specs.declared.Forcing.{Forcing}
 use Rattle.surge.specs.declared.Reply.{Reply}
 use Rattle.saves.specs.declared.Taken.{Taken}
 

@@ -3,13 +3,14 @@
 // themselves. The refusal number is the result. No length is tested here: the product's row 1 does it, so a call answers exactly as the product's.
 use equations::Parameters;
 use surge::Clock;
-use surge::Forcing;
+use equations::Forcing;
 use surge::Reply;
 ghost use mathlib.Core.Path.{_≡_};
 ghost use Rattle.mesh.specs.Lent.{mesh};
 ghost use Rattle.surge.specs.Lent.{after};
 ghost use Rattle.surge.specs.Open.{openOf};
-ghost use Rattle.surge.specs.Step.{given, lentRooms, stepOut, stepOf};
+ghost use Rattle.surge.specs.Step.{given, stepOut, stepOf};
+ghost use Rattle.passes.specs.Settle.{lentRooms};
 ghost use Rattle.saves.specs.Save.{saveOut, saveOf};
 ghost use Rattle.saves.specs.Load.{loadOf};
 ghost use Rattle.saves.specs.Forcings.{takenOf};

@@ -20,6 +20,13 @@ pub struct Wind {
     pub y: f64,
 }
 
+// The new open elevation, and the new wind: stress over density.
+pub struct Forcing {
+    pub elevation: f64,
+    pub wx: f64,
+    pub wy: f64,
+}
+
 // What a node lends to a triangle: depth, earlier elevation, present elevation, U, V.
 pub struct Node {
     pub h: f64,

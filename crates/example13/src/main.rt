@@ -2,7 +2,7 @@
 // pattern, one a line, and last the clock's step number. The file `stdout` beside src/ holds what the independent second program gives.
 use equations::Parameters;
 use libc::STDOUT_FILENO;
-use surge::Forcing;
+use equations::Forcing;
 
 fn print_state(state: &[f64]) {
     for i in 0..state.len() {

@@ -14,8 +14,10 @@ use Rattle.limits.specs.Limits.{row11, row12Held}
 use Rattle.mesh.specs.Lent.{N}
 use Rattle.surge.specs.Lent.{After}
 use Rattle.surge.specs.Open.{openAnswer, openOf}
-use Rattle.surge.specs.State.{rows1to10, windOf}
-use Rattle.surge.specs.Step.{Given, given, Rooms, advance, roomy, stepOf}
+use Rattle.passes.specs.State.{rows1to10}
+use Rattle.surge.specs.State.{windOf}
+use Rattle.surge.specs.Step.{Given, given, advance, stepOf}
+use Rattle.passes.specs.Settle.{Rooms, roomy}
 use Rattle.surge.proofs.KeptLaws.{WentOn, went-on, next-rows, next-wind, cold-rows, cold-wind, opened-mesh}
 use Rattle.saves.specs.Forcings.{takenOf}
 use Rattle.saves.specs.Save.{saveAnswer, saveOut, wrote, saveOf}

@@ -2,7 +2,8 @@
 use mathlib.Core.Path.{_≡_}
 use mathlib.Core.Bool.{true}
 use Rattle.limits.specs.Limits.{row12Held}
-use Rattle.surge.specs.State.{rows1to10, windOf}
+use Rattle.passes.specs.State.{rows1to10}
+use Rattle.surge.specs.State.{windOf}
 use Rattle.forcelog.specs.declared.Log.{Log}
 use Rattle.forcelog.specs.MeshT.{T, T-parameters}
 

@@ -5,9 +5,10 @@ use mathlib.Core.List.{List}
 use lib.Dec.{eqb}
 use Rattle.lists.specs.declared.rows.Answer.{Answer}
 use Rattle.lists.specs.Table.{table, zeros}
-use Rattle.surge.specs.declared.Forcing.{Forcing}
+use Rattle.equations.specs.declared.Forcing.{Forcing}
 use Rattle.surge.specs.Lent.{coldState, coldClock}
-use Rattle.surge.specs.Step.{StepOut, Rooms, given, lentRooms, stepOf}
+use Rattle.surge.specs.Step.{StepOut, given, stepOf}
+use Rattle.passes.specs.Settle.{Rooms, lentRooms}
 use Rattle.saves.specs.declared.Taken.{Taken}
 use Rattle.saves.specs.Forcings.{takenOf}
 use Rattle.saves.specs.Save.{SaveOut, saveOf}

@@ -2,7 +2,7 @@
 use equations::Parameters;
 use lists::rows::Answer;
 use surge::Clock;
-use surge::Forcing;
+use equations::Forcing;
 ghost use mathlib.Core.Path.{_≡_};
 ghost use Rattle.saves.specs.Save.{saveOut};
 ghost use Rattle.forcelog.specs.Log.{coldLog, stepped, refusedAt, afterStep, takeOf, endOf};

@@ -6,7 +6,7 @@ use mathlib.Core.List.{List}
 use borrow.Author.Tests.{eq-eqb, ne-eqb}
 use lib.Dec.{eqb}
 use Rattle.lists.specs.declared.rows.Answer.{Answer}
-use Rattle.surge.specs.declared.Forcing.{Forcing}
+use Rattle.equations.specs.declared.Forcing.{Forcing}
 use Rattle.saves.specs.declared.Taken.{Taken}
 use Rattle.saves.specs.Forcings.{still, forcingOf, forcingAnswer, takenOf}
 

@@ -23,7 +23,7 @@ use Rattle.equations.specs.Velocity.{flow, U′ as u′, V′ as v′}
 use Rattle.frames.proofs.BackLaws.{value-small}
 use Rattle.mesh.specs.Lent.{N}
 use Rattle.surge.specs.Lent.{coldState, coldClock}
-use Rattle.surge.specs.Equations.{node, riseOf, rise, flowOf, flowAt, U′, V′, nextState}
+use Rattle.passes.specs.Equations.{node, riseOf, rise, flowOf, flowAt, U′, V′, nextState}
 use Rattle.surge.specs.Step.{Given, seaOf, advance}
 use Rattle.saves.specs.Held.{HeldClock, HeldState}
 use Rattle.saves.specs.Load.{lineAt, float, clockOf, loadedNode, loadedState}

@@ -8,7 +8,7 @@ use Rattle.lists.specs.declared.rows.Answer.{Answer}
 use Rattle.lists.specs.Scan.{plus0}
 use Rattle.frames.specs.Frames.{digitsOf, byteOf}
 use Rattle.frames.specs.Reading.{fault}
-use Rattle.surge.specs.declared.Forcing.{Forcing}
+use Rattle.equations.specs.declared.Forcing.{Forcing}
 use Rattle.saves.specs.declared.Taken.{Taken}
 use Rattle.saves.specs.Lines.{forcingLayout}
 use Rattle.saves.specs.Load.{float}

@@ -10,9 +10,8 @@ use lists::rows;
 use lists::rows::Answer;
 use lists::slices;
 use surge::Clock;
-use surge::Forcing;
+use equations::Forcing;
 use surge::Reply;
-use surge::stepping;
 ghost use mathlib.Core.Path.{_≡_};
 ghost use Rattle.limits.specs.Limits.{row12Held};
 ghost use Rattle.mesh.specs.Lent.{mesh};
@@ -82,7 +81,7 @@ pub fn save(
 ) -> Answer
     ensures { λ r. ⌜ saveOut r (now (text .exit)) ≡ saveOf (mesh (now (x .entry)) (now (y .entry)) (now (tri .entry)) (now (h .entry)) (now (kind .entry))) p (now (state .entry)) clock (now (text .entry)) ⌝ }
 {
-    let lent = stepping::rows_to_10(true, x, y, tri, h, kind, p, state);
+    let lent = passes::rows_to_10(true, x, y, tri, h, kind, p, state);
     if lent.number != 0 {
         return lent;
     }

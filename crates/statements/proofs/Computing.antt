@@ -15,9 +15,10 @@ use Rattle.mesh.specs.Geometry.{sides, area}
 use Rattle.geometry.specs.Geometry.{allNear, floats}
 use Rattle.mesh.specs.Rows.{row1, row2, allBelow, row3, row4, row5, rows3to5, isLeg, row6, row6If, isNamed, row7, row8, rows1to9}
 use Rattle.surge.specs.Open.{openAnswer, openOf}
-use Rattle.surge.specs.State.{row10, rows1to10}
-use Rattle.surge.specs.Equations.{riseOf, flowOf, sharesAt, rise, slopeX, slopeY, flowAt, nextState}
-use Rattle.surge.specs.Step.{row13Level, speedOf, row13Flow, row13, advance, before13, stepsTo, stepOf}
+use Rattle.passes.specs.State.{row10, rows1to10}
+use Rattle.passes.specs.Equations.{riseOf, flowOf, sharesAt, rise, slopeX, slopeY, flowAt, nextState}
+use Rattle.passes.specs.Row13.{row13Level, speedOf, row13Flow, row13}
+use Rattle.surge.specs.Step.{advance, before13, stepsTo, stepOf}
 use Rattle.saves.specs.Lines.{startOf}
 use Rattle.saves.specs.Save.{lineOf, linesTo, row24, saveAnswer, saveOf}
 use Rattle.saves.specs.Load.{row23, lineRows, clockOf, loadedNode, loadAnswer, loadedState, loadOf}

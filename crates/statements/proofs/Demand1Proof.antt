@@ -10,7 +10,8 @@ use Rattle.equations.specs.declared.Parameters.{Parameters}
 use Rattle.surge.specs.declared.Clock.{Clock}
 use Rattle.mesh.specs.Lent.{Mesh, N}
 use Rattle.surge.specs.Open.{openOf}
-use Rattle.surge.specs.Step.{Given, seaOf, Rooms, roomy, refusedBefore, refusedBy13, wentOn, stepOf}
+use Rattle.surge.specs.Step.{Given, seaOf, refusedBefore, refusedBy13, wentOn, stepOf}
+use Rattle.passes.specs.Settle.{Rooms, roomy}
 use Rattle.saves.specs.Save.{saveOf}
 use Rattle.saves.specs.Load.{loadOf}
 use Rattle.saves.specs.Forcings.{takenOf}

@@ -11,8 +11,10 @@ use Rattle.surge.specs.Lent.{After}
 use Rattle.mesh.specs.Rows.{rows1to9}
 use Rattle.surge.specs.Open.{openAnswer, openOf}
 use Rattle.limits.specs.Limits.{row12Held}
-use Rattle.surge.specs.State.{rows1to10, windOf}
-use Rattle.surge.specs.Step.{Given, given, Held, StepOut, advance, Rooms}
+use Rattle.passes.specs.State.{rows1to10}
+use Rattle.surge.specs.State.{windOf}
+use Rattle.surge.specs.Step.{Given, given, Held, StepOut, advance}
+use Rattle.passes.specs.Settle.{Rooms}
 use Rattle.mesh.proofs.AcceptedLaws.{accepted}
 use Rattle.surge.proofs.StepLaws.{not-last}
 use Rattle.surge.proofs.KeptLaws.{went-on, stayed, step-mesh, next-rows, next-wind, cold-rows, cold-wind, opened-mesh}

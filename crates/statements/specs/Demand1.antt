@@ -16,7 +16,9 @@ use Rattle.surge.specs.declared.Clock.{Clock}
 use Rattle.mesh.specs.Lent.{Mesh, mesh, N, E}
 use Rattle.surge.specs.Lent.{coldState, coldClock, After, after}
 use Rattle.surge.specs.Open.{openAnswer}
-use Rattle.surge.specs.Step.{Given, given, seaOf, before13, row13, Rooms, lentRooms, roomy, StepOut, stepOut}
+use Rattle.surge.specs.Step.{Given, given, seaOf, before13, StepOut, stepOut}
+use Rattle.passes.specs.Row13.{row13}
+use Rattle.passes.specs.Settle.{Rooms, lentRooms, roomy}
 use Rattle.saves.specs.declared.Taken.{Taken}
 use Rattle.saves.specs.Lines.{saveLength}
 use Rattle.saves.specs.Save.{saveText, saveAnswer, SaveOut, saveOut, wrote}

@@ -9,11 +9,12 @@ use lib.Ieee.{Float, binary64, fits}
 use Rattle.lists.specs.declared.rows.Answer.{Answer}
 use Rattle.equations.specs.declared.Parameters.{Parameters}
 use Rattle.surge.specs.declared.Clock.{Clock}
-use Rattle.surge.specs.declared.Forcing.{Forcing}
+use Rattle.equations.specs.declared.Forcing.{Forcing}
 use Rattle.mesh.specs.Lent.{Mesh, N}
 use Rattle.surge.specs.Lent.{coldState, coldClock}
 use Rattle.surge.specs.Open.{openOf}
-use Rattle.surge.specs.Step.{given, Held, advance, Rooms, stepOf}
+use Rattle.surge.specs.Step.{given, Held, advance, stepOf}
+use Rattle.passes.specs.Settle.{Rooms}
 use Rattle.saves.specs.Lines.{saveLength}
 use Rattle.saves.specs.Save.{saveOf}
 use Rattle.saves.specs.Load.{loadOf}

@@ -16,7 +16,8 @@ use Rattle.surge.specs.Lent.{coldState, coldClock}
 use Rattle.mesh.specs.Geometry.{sides}
 use Rattle.geometry.specs.Geometry.{D}
 use Rattle.surge.specs.Open.{openAnswer}
-use Rattle.surge.specs.Step.{given, Rooms, lentRooms, stepOf}
+use Rattle.surge.specs.Step.{given, stepOf}
+use Rattle.passes.specs.Settle.{Rooms, lentRooms}
 use Rattle.saves.specs.Lines.{head, end}
 use Rattle.saves.specs.Save.{linesTo, saveText}
 use Rattle.saves.specs.Load.{loadAnswer}

@@ -28,16 +28,19 @@ use Rattle.equations.specs.declared.Outcome.the-variants.{Accepted as Fine, Ele
 use Rattle.equations.specs.Operations.{_⊕_}
 use Rattle.equations.specs.Constants.{tenth}
 use Rattle.equations.specs.Outcomes.{inSize, level, speed, answerOf}
-use Rattle.surge.specs.declared.Forcing.{Forcing}
+use Rattle.equations.specs.declared.Forcing.{Forcing}
 use Rattle.mesh.specs.Lent.{Mesh, N}
 use Rattle.surge.specs.Lent.{coldState, coldClock}
 use Rattle.mesh.specs.Rows.{row1, row6If, rows1to9}
 use Rattle.limits.specs.Limits.{inBounds, row12Held, row12New}
-use Rattle.surge.specs.State.{inRun, nodeOf, row10, rows1to10, windOf}
-use Rattle.surge.specs.Equations.{Sea, count, node, rise, flowAt, U′, V′, nextState}
-use Rattle.surge.specs.Step.{Given, seaOf, row13Level, speedOf, row13Flow, row13, advance, before13, Rooms, roomy, StepOut, refusedBefore, refusedBy13, wentOn, stepsTo, stepOf}
+use Rattle.passes.specs.State.{inRun, nodeOf, row10, rows1to10}
+use Rattle.surge.specs.State.{windOf}
+use Rattle.passes.specs.Equations.{Sea, count, node, rise, flowAt, U′, V′, nextState}
+use Rattle.surge.specs.Step.{Given, seaOf, advance, before13, StepOut, refusedBefore, refusedBy13, wentOn, stepsTo, stepOf}
+use Rattle.passes.specs.Row13.{row13Level, speedOf, row13Flow, row13}
+use Rattle.passes.specs.Settle.{Rooms, roomy}
 use Rattle.mesh.proofs.AcceptedLaws.{accepted, accepted-rooms}
-use Rattle.surge.proofs.StateLaws.{bounds-held}
+use Rattle.passes.proofs.StateLaws.{bounds-held}
 
 -- ---- a step's outcome
 module _ (g : Given) (r : Rooms) where

@@ -16,10 +16,12 @@ use Rattle.surge.specs.declared.Clock.{Clock}
 use Rattle.mesh.specs.Lent.{N}
 use Rattle.limits.specs.Limits.{row11}
 use Rattle.surge.specs.State.{advanced}
-use Rattle.surge.specs.Equations.{nextState}
-use Rattle.surge.specs.Step.{Given, seaOf, advance, before13, row13, Rooms, roomy, cleared, stepOut, refusedBefore, refusedBy13, wentOn, stepsTo, stepOf}
-use Rattle.surge.specs.Passes.{Solving, solving, SolvingFits}
-use Rattle.surge.proofs.StateLaws.{AcceptedRun, accepted-run}
+use Rattle.passes.specs.Equations.{nextState}
+use Rattle.surge.specs.Step.{Given, seaOf, advance, before13, stepOut, refusedBefore, refusedBy13, wentOn, stepsTo, stepOf}
+use Rattle.passes.specs.Row13.{row13}
+use Rattle.passes.specs.Settle.{Rooms, roomy, cleared}
+use Rattle.passes.specs.Passes.{Solving, solving, SolvingFits}
+use Rattle.passes.proofs.StateLaws.{AcceptedRun, accepted-run}
 
 abbrev pub solvingOf : Given → Solving
 solvingOf g = solving (seaOf g) (g .mesh .kind) (g .forcing)

@@ -13,12 +13,13 @@ use Rattle.equations.specs.declared.Parameters.{Parameters}
 use Rattle.equations.specs.declared.Flow.{Flow}
 use Rattle.equations.specs.Outcomes.{level, east, north, answerOf}
 use Rattle.surge.specs.declared.Clock.{Clock}
-use Rattle.surge.specs.declared.Forcing.{Forcing}
+use Rattle.equations.specs.declared.Forcing.{Forcing}
 use Rattle.surge.specs.declared.Reply.{Reply}
 use Rattle.mesh.specs.Lent.{Mesh, N}
 use Rattle.limits.specs.Limits.{row11, row12Held, row12New}
-use Rattle.surge.specs.State.{rows1to10, windOf, newWind, advanced}
-use Rattle.surge.specs.Equations.{Sea, sea, count, node, rise, flowAt, nextState}
+use Rattle.passes.specs.State.{rows1to10, newWind}
+use Rattle.surge.specs.State.{windOf, advanced}
+use Rattle.passes.specs.Equations.{Sea, sea, count, node, rise, flowAt, nextState}
 
 -- what a step is given: a mesh and parameters, the run's state and clock, and a forcing
 pub record Given : Type 0 where
@@ -33,22 +34,6 @@ given m p state k f = record { mesh = m; p = p; state = state; clock = k; forcin
 
 abbrev pub seaOf : Given → Sea
 seaOf g = sea (g .p) (windOf (g .clock)) (g .mesh .x) (g .mesh .y) (g .mesh .tri) (g .mesh .h) (g .state)
-
--- | 13 | z' beyond 30, H' below 0.1, U' or V' beyond 20 | node |
--- "all z' first (node by node, size, then H')"
-unfoldable pub row13Level : Sea → List ℕ → Forcing → ℕ → Answer
-row13Level s kind f i = answerOf (level (node s i .h) (rise s kind f i)) i
-
--- "then, node by node, U' before V'"
-unfoldable pub speedOf : Flow → ℕ → Answer
-speedOf v i = answerOf (east (v .u)) i then answerOf (north (v .v)) i
-
-unfoldable pub row13Flow : Sea → List ℕ → Forcing → ℕ → Answer
-row13Flow s kind f i = speedOf (flowAt s kind f i) i
-
--- "then 13: all z' first (node by node, size, then H'), then, node by node, U' before V'."
-unfoldable pub row13 : Sea → List ℕ → Forcing → Answer
-row13 s kind f = scan (row13Level s kind f) (count s) then scan (row13Flow s kind f) (count s)
 
 -- ---- the equations alone, with no refusal: the state and the clock that they give
 pub record Held : Type 0 where
@@ -68,22 +53,6 @@ before13 rooms g =
     then row12New (g .forcing .elevation) (newWind (g .forcing))
 
 -- ---- what a step leaves
--- "The next state goes to a second lent slice of 4N; work room is 3N binary64 and N 64-bit unsigned."
-pub record Rooms : Type 0 where
-  pub next : List Float
-  pub work : List Float
-  pub sums : List ℕ
-
-abbrev pub lentRooms : List Float → List Float → List ℕ → Rooms
-lentRooms next work sums = record { next = next; work = work; sums = sums }
-
-abbrev pub roomy : Rooms → ℕ → Bool
-roomy r n = isRuns (length (r .next)) 4 n && isRuns (length (r .work)) 3 n && isRuns (length (r .sums)) 1 n
-
--- "all zero after an accepted step or a 13"
-abbrev pub cleared : List Float → ℕ → Rooms
-cleared next n = record { next = next; work = zeros (3 * n); sums = table n (λ _. 0) }
-
 pub record StepOut : Type 0 where
   pub reply : Reply
   pub rooms : Rooms

@@ -1,6 +1,5 @@
 // The storm-surge run of document 01: the calls that are made on it, and what goes into them and comes back.
-pub mod stepping;
-
+use equations::Forcing;
 use equations::Parameters;
 use equations::Wind;
 use lists::rows::Answer;
@@ -10,19 +9,13 @@ ghost use Rattle.mesh.specs.Lent.{mesh};
 ghost use Rattle.surge.specs.Lent.{coldClock, after};
 ghost use Prim.Native.Nat.{_<_};
 ghost use Rattle.surge.specs.State.{windOf, advanced};
-ghost use Rattle.surge.specs.Step.{given, lentRooms, stepOut, stepOf};
+ghost use Rattle.surge.specs.Step.{given, stepOut, stepOf};
+ghost use Rattle.passes.specs.Settle.{lentRooms};
 ghost use Rattle.surge.specs.Open.{openOf};
 
 // The step number and the present wind.
 pub struct Clock {
     pub step: u32,
-    pub wx: f64,
-    pub wy: f64,
-}
-
-// The new open elevation, and the new wind: stress over density.
-pub struct Forcing {
-    pub elevation: f64,
     pub wx: f64,
     pub wy: f64,
 }

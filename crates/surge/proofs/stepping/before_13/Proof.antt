@@ -1,7 +1,7 @@
 use Rattle.surge.specs.Step.{before13}
 use borrow.Author.Needs.{needs}
-use Rattle.surge.proofs.stepping.before_13.Statement.{statement}
-use Rattle.surge.proofs.stepping.before_13.Tie as tie
+use Rattle.passes.proofs.before_13.Statement.{statement}
+use Rattle.passes.proofs.before_13.Tie as tie
 
 rows-to-10-requires : tie.Need-rows-to-10-requires
 rows-to-10-requires c κs = search needs

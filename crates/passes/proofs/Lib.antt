@@ -1,0 +1,5 @@
+pub mod StateLaws
+pub mod PassLaws
+pub mod RoomLaws
+pub mod SolveLaws
+pub mod SettleLaws

@@ -1,0 +1,71 @@
+use Prim.Native.Nat.{ℕ}
+use mathlib.Core.Path.{sym, ap, _∙_}
+use mathlib.Core.Bool.{Bool, cond}
+use mathlib.Core.Logic.{⊎-elim}
+use borrow.Author.Tests.{eq-eqb, ne-eqb}
+use lib.ListN.{length}
+use Rattle.lists.specs.Table.{table, zeros}
+use Rattle.passes.specs.Equations.{sea, nextState}
+use Rattle.passes.specs.Passes.{Solving, solving}
+use Rattle.passes.proofs.SolveLaws.{next-state}
+use borrow.Author.Needs.{needs}
+use Rattle.passes.proofs.advance.Statement.{statement}
+use Rattle.passes.proofs.advance.Tie as tie
+
+abbrev its : tie.Start → Solving
+its s = let a = s .args in solving (sea (a .p) (a .w) (a .x .now) (a .y .now) (a .tri .now) (a .h .now) (a .state .now)) (a .kind .now) (a .f)
+
+solve-requires : tie.Need-solve-requires
+solve-requires c κs = search needs
+
+publish-requires : tie.Need-publish-requires
+publish-requires c κs = search needs
+
+clear-requires : tie.Need-clear-requires
+clear-requires c κs = search needs
+
+clear-whole-requires : tie.Need-clear-whole-requires
+clear-whole-requires c κs = search needs
+
+returns : tie.Need-returns
+returns c =
+    let j = c .before .before .before .before .before .before .before .before in
+    let k = j .before .before .before .before .before .before in
+    let s = k .before .before .before .before .before .before .before .before .before .before in
+    let v = its s in (
+      k .solve .ensures .0,
+      (
+        ⊎-elim
+            (λ w. next-state v (s .pre .0) _ _ (w .6 ∙ w .3 .ensures) (k .solve .ensures .1 (w .0 .taken)) ∙ sym (ap (λ (b : Bool). cond b (nextState (v .sea) (v .kind) (v .f)) (s .args .next .now)) (eq-eqb _ _ (w .0 .taken))))
+            (λ w. w .1 ∙ sym (ap (λ (b : Bool). cond b (nextState (v .sea) (v .kind) (v .f)) (s .args .next .now)) (ne-eqb _ _ (w .0 .left))))
+            (j .if1 .came),
+        (
+          c .before .before .before .before .before .before .clear .ensures ∙ ap zeros (k .solve .kept .0 ∙ s .pre .1 .1),
+          c .before .before .clear-whole .ensures ∙ ap (λ (n : ℕ). table n (λ _. 0)) (k .solve .kept .1 .0 ∙ s .pre .1 .2),
+        ),
+      ),
+    )
+
+same-length : tie.Need-same-length
+same-length c =
+    let j = c .before .before .before .before .before .before .before .before in
+    ⊎-elim (λ w. ap length (w .6) ∙ w .3 .kept .0) (λ w. ap length (w .1)) (j .if1 .came)
+
+same-length-2 : tie.Need-same-length-2
+same-length-2 c = search needs
+
+same-length-3 : tie.Need-same-length-3
+same-length-3 c = search needs
+
+pub advance-spec : {M : Type 1} → statement M
+advance-spec =
+    tie.close
+    (tie.spec
+    solve-requires
+    publish-requires
+    clear-requires
+    clear-whole-requires
+    same-length
+    same-length-2
+    same-length-3
+    returns)

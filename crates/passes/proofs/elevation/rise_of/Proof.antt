@@ -1,0 +1,34 @@
+use borrow.Author.Tests.{eq-eqb, ne-eqb}
+use Rattle.equations.specs.Elevation.{z*}
+use Rattle.passes.specs.Equations.{riseOf}
+use borrow.Author.Needs.{needs}
+use Rattle.passes.proofs.elevation.rise_of.Statement.{statement}
+use Rattle.passes.proofs.elevation.rise_of.Tie as tie
+
+sum-of-requires : tie.Need-sum-of-requires
+sum-of-requires c κs = search needs
+
+lumped-requires : tie.Need-lumped-requires
+lumped-requires c κs = search needs
+
+risen-requires : tie.Need-risen-requires
+risen-requires c κs = search needs
+
+returns : tie.Need-returns
+unfolding riseOf
+returns c = rw (eq-eqb _ _ (c .if1 .taken))
+
+returns-2 : tie.Need-returns-2
+unfolding riseOf z*
+returns-2 c =
+    let z = c .before in
+    rw (
+      z .risen .ensures,
+      z .before .before .lumped .ensures,
+      z .before .before .before .sum-of .ensures,
+      ne-eqb _ _ (c .if1 .left),
+    )
+
+pub rise-of-spec : {M : Type 1} → statement M
+rise-of-spec =
+    tie.close (tie.spec sum-of-requires lumped-requires risen-requires returns returns-2)

@@ -1,0 +1,45 @@
+use Prim.Native.Nat.{_-_, _≤_}
+use mathlib.Core.Path.{_≡_, refl, ap, _∙_}
+use native.Mathlib.Omega.{arith}
+use borrow.Author.Needs.{needs}
+use lib.ListN.{length}
+use Rattle.lists.specs.Scan.{clean}
+use Rattle.lists.proofs.ScanLaws.{clean-turn}
+use Rattle.passes.specs.State.{row10}
+use Rattle.passes.proofs.state.all_bounds.Statement.{statement}
+use Rattle.passes.proofs.state.all_bounds.Tie as tie
+
+-- whether every node passed so far accepts
+abbrev Inv-loop : tie.InvT-loop
+Inv-loop h state all₀ i₀ i-end all i = (i ≤ i-end) × (all ≡ clean (row10 h state) i)
+
+abbrev μ-loop : tie.MeasureT-loop
+μ-loop h state all₀ i₀ i-end all i = i-end - i
+
+loop-holds : tie.Need-loop-holds Inv-loop μ-loop
+unfolding clean
+loop-holds c = (search needs, refl)
+
+bound-requires : tie.Need-bound-requires Inv-loop μ-loop
+bound-requires c κs = search needs
+
+add-i : tie.Need-add-i Inv-loop μ-loop
+add-i c = search needs
+
+loop-less : tie.Need-loop-less Inv-loop μ-loop
+loop-less c = search needs
+
+loop-again : tie.Need-loop-again Inv-loop μ-loop
+loop-again c = (search needs, clean-turn _ _ (c .before .before .before .loop .inv .1) (c .before .bound .ensures))
+
+returns : tie.Need-returns Inv-loop μ-loop
+returns c =
+    let l = c .before in
+    let a = l .before .before .before .args in
+    let all : l .loop .i ≡ length (a .h .now) = omega arith in
+    l .loop .inv .1 ∙ ap (clean (row10 (a .h .now) (a .state .now))) all
+
+pub all-bounds-spec : {M : Type 1} → statement M
+all-bounds-spec =
+    tie.close
+    (tie.spec Inv-loop μ-loop loop-holds bound-requires add-i loop-less loop-again returns)

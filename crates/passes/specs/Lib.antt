@@ -1,0 +1,5 @@
+pub mod State
+pub mod Equations
+pub mod Row13
+pub mod Settle
+pub mod Passes

@@ -1,0 +1,47 @@
+// Sums by node: a triangle's values are added at its three corners.
+use geometry::Corners;
+use equations::Shares;
+ghost use mathlib.Core.Path.{_≡_};
+ghost use Prim.Native.Nat.{ℕ, _+_, _*_, _^_, _<_};
+ghost use lib.ListN.{length, getD};
+ghost use lib.Ieee.{nan};
+ghost use Rattle.lists.specs.Gather.{Below, alike, whole, addedAt, spread};
+ghost use Rattle.geometry.specs.Geometry.{nodesOf};
+ghost use Rattle.passes.specs.Equations.{threeOf, floating};
+
+// Adds a value at one place.
+fn add_at(r: &mut [f64], i: usize, v: f64)
+    requires { ⌜ i < length (now r) ⌝ }
+    ensures { λ _. ⌜ now (r .exit) ≡ addedAt floating nan (now (r .entry)) i v ⌝ }
+{
+    r[i] = r[i] + v;
+}
+
+// Adds a triangle's values at its corners.
+pub(crate) fn spread(r: &mut [f64], c: Corners, v: Shares)
+    requires { ⌜ Below (nodesOf c) (length (now r)) ⌝ }
+    ensures { λ _. ⌜ now (r .exit) ≡ spread floating nan (nodesOf c) (threeOf v) (now (r .entry)) ⌝ }
+{
+    add_at(r, c.n1, v.r1);
+    add_at(r, c.n2, v.r2);
+    add_at(r, c.n3, v.r3);
+}
+
+// Adds an area at one place.
+fn add_area(sums: &mut [u64], i: usize, d: u64)
+    requires { ⌜ (i < length (now sums)) × (getD (now sums) i 0 + d < 2 ^ 53) ⌝ }
+    ensures { λ _. ⌜ now (sums .exit) ≡ addedAt whole 0 (now (sums .entry)) i d ⌝ }
+{
+    sums[i] = sums[i] + d;
+}
+
+// Adds a triangle's area at its corners.
+pub(crate) fn spread_area(sums: &mut [u64], c: Corners, d: u64)
+    requires { ⌜ Below (nodesOf c) (length (now sums)) ⌝ }
+    requires { ⌜ ((i : ℕ) → getD (now sums) i 0 + 3 * d < 2 ^ 53) ⌝ }
+    ensures { λ _. ⌜ now (sums .exit) ≡ spread whole 0 (nodesOf c) (alike d) (now (sums .entry)) ⌝ }
+{
+    add_area(sums, c.n1, d);
+    add_area(sums, c.n2, d);
+    add_area(sums, c.n3, d);
+}
