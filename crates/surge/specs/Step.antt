@@ -1,17 +1,12 @@
 -- Document 01: a step. Its answer is the table's, and what it leaves goes by the answer.
-use Prim.Native.Nat.{ℕ, _*_}
-use mathlib.Core.Bool.{Bool, cond, _&&_}
+use Prim.Native.Nat.{ℕ}
+use mathlib.Core.Bool.{Bool, cond}
 use mathlib.Core.List.{List}
 use lib.Dec.{eqb}
-use lib.ListN.{length}
 use lib.Ieee.{Float}
 use Rattle.lists.specs.declared.rows.Answer.{Answer}
-use Rattle.lists.specs.Table.{table, zeros}
-use Rattle.lists.specs.Runs.{isRuns}
-use Rattle.lists.specs.Scan.{_then_, scan}
+use Rattle.lists.specs.Scan.{_then_}
 use Rattle.equations.specs.declared.Parameters.{Parameters}
-use Rattle.equations.specs.declared.Flow.{Flow}
-use Rattle.equations.specs.Outcomes.{level, east, north, answerOf}
 use Rattle.surge.specs.declared.Clock.{Clock}
 use Rattle.equations.specs.declared.Forcing.{Forcing}
 use Rattle.surge.specs.declared.Reply.{Reply}
@@ -19,7 +14,9 @@ use Rattle.mesh.specs.Lent.{Mesh, N}
 use Rattle.limits.specs.Limits.{row11, row12Held, row12New}
 use Rattle.passes.specs.State.{rows1to10, newWind}
 use Rattle.surge.specs.State.{windOf, advanced}
-use Rattle.passes.specs.Equations.{Sea, sea, count, node, rise, flowAt, nextState}
+use Rattle.passes.specs.Equations.{Sea, sea, nextState}
+use Rattle.passes.specs.Row13.{row13}
+use Rattle.passes.specs.Settle.{Rooms, lentRooms, roomy, cleared}
 
 -- what a step is given: a mesh and parameters, the run's state and clock, and a forcing
 pub record Given : Type 0 where

@@ -2,12 +2,16 @@
 use equations::Forcing;
 use equations::Parameters;
 use equations::Wind;
+use lists::rows;
 use lists::rows::Answer;
 use lists::slices;
 ghost use mathlib.Core.Path.{_≡_};
 ghost use Rattle.mesh.specs.Lent.{mesh};
 ghost use Rattle.surge.specs.Lent.{coldClock, after};
 ghost use Prim.Native.Nat.{_<_};
+ghost use Rattle.lists.specs.Scan.{_then_};
+ghost use Rattle.limits.specs.Limits.{row11, row12Held, row12New};
+ghost use Rattle.passes.specs.State.{newWind};
 ghost use Rattle.surge.specs.State.{windOf, advanced};
 ghost use Rattle.surge.specs.Step.{given, stepOut, stepOf};
 ghost use Rattle.passes.specs.Settle.{lentRooms};
@@ -85,6 +89,18 @@ pub fn open(
     }
 }
 
+// Rows 11 and 12: what a step asks of the clock and the forcing.
+fn others(clock: Clock, f: Forcing) -> Answer
+    ensures { λ r. ⌜ r ≡ (row11 (clock .step) then row12Held (windOf clock) then row12New (f .elevation) (newWind f)) ⌝ }
+{
+    let new = Wind { x: f.wx, y: f.wy };
+    let winds = rows::first(
+        limits::held_wind(clock.wind()),
+        limits::forcing(f.elevation, new),
+    );
+    rows::first(limits::may_count(clock.step), winds)
+}
+
 // A step: rows 1 to 13, then the next state in `next`. A refusal leaves `next` and the clock as found, and the work room too unless it is 13.
 pub fn step(
     next: &mut [f64],
@@ -102,27 +118,13 @@ pub fn step(
 ) -> Reply
     ensures { λ r. ⌜ stepOut r (now (next .exit)) (now (work .exit)) (now (sums .exit)) ≡ stepOf (given (mesh (now (x .entry)) (now (y .entry)) (now (tri .entry)) (now (h .entry)) (now (kind .entry))) p (now (state .entry)) clock f) (lentRooms (now (next .entry)) (now (work .entry)) (now (sums .entry))) ⌝ }
 {
-    let n = x.len();
-    let rooms = slices::is_runs(next.len(), 4, n)
-        & slices::is_runs(work.len(), 3, n)
-        & slices::is_runs(sums.len(), 1, n);
-    let first = stepping::before_13(rooms, x, y, tri, h, kind, p, state, clock, f);
-    if first.number != 0 {
-        return Reply {
-            answer: first,
-            clock,
-        };
-    }
-    let held = clock.wind();
-    let last = stepping::advance(next, work, sums, x, y, tri, h, kind, p, state, held, f);
-    if last.number != 0 {
-        return Reply {
-            answer: last,
-            clock,
-        };
+    let also = others(clock, f);
+    let answer = passes::settle(next, work, sums, x, y, tri, h, kind, p, state, clock.wind(), f, also);
+    if answer.number != 0 {
+        return Reply { answer, clock };
     }
     Reply {
-        answer: last,
+        answer,
         clock: clock.advanced(f),
     }
 }

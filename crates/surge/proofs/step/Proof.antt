@@ -1,17 +1,15 @@
 use mathlib.Core.Path.{_≡_, _∙_}
-use mathlib.Core.Bool.{_&&_}
 use native.Mathlib.Omega.{arith}
-use Rattle.lists.proofs.ScanLaws.{same-number}
-use Rattle.mesh.specs.Lent.{mesh, N}
-use Rattle.surge.specs.Step.{Given, given, before13}
-use Rattle.passes.specs.Settle.{Rooms, lentRooms, roomy}
-use Rattle.surge.proofs.StepLaws.{stopped, solving-fits, next-long, work-long, sums-long, not-last, by-13, went-on}
 use borrow.Author.Needs.{needs}
+use Rattle.mesh.specs.Lent.{mesh}
+use Rattle.passes.specs.Settle.{Rooms, lentRooms, settled, settleOf}
+use Rattle.surge.specs.Step.{Given, given}
+use Rattle.surge.proofs.StepLaws.{settledOf, stayed, passed, went-on, not-last}
 use Rattle.surge.proofs.step.Statement.{statement}
 use Rattle.surge.proofs.step.Tie as tie
 
-abbrev start : tie.After-before-13 → tie.Start
-start c = c .before .before .before .before .before .before .before .before .before .before .before
+abbrev start : tie.After-settle → tie.Start
+start c = c .before .before .before .before .before .before .before .before .before .before .before .before .before
 
 abbrev its : tie.Start → Given
 its s = let a = s .args in given (mesh (a .x .now) (a .y .now) (a .tri .now) (a .h .now) (a .kind .now)) (a .p) (a .state .now) (a .clock) (a .f)
@@ -19,39 +17,21 @@ its s = let a = s .args in given (mesh (a .x .now) (a .y .now) (a .tri .now) (a 
 abbrev lent : tie.Start → Rooms
 lent s = let a = s .args in lentRooms (a .next .now) (a .work .now) (a .sums .now)
 
-answered : (c : tie.After-before-13) → let s = start c in c .before-13 .result ≡ before13 (roomy (lent s) (N (its s .mesh))) (its s)
+answered : (c : tie.After-settle) → let s = start c in settled (c .settle .result) (c .settle .last .0) (c .settle .last .1 .0) (c .settle .last .1 .1 .0) ≡ settledOf (its s) (lent s)
 answered c =
-    c .before-13 .ensures
-    ∙ (λ i. before13 (c .before .before .before .is-runs .ensures i && c .before .before .is-runs2 .ensures i && c .before .is-runs3 .ensures i) (its (start c)))
+    let s = start c in
+    let g = its s in
+    let k = c .before in
+    c .settle .ensures ∙ (λ i. settleOf (g .mesh) (g .p) (g .state) (k .wind .ensures i) (g .forcing) (k .before .before .before .before .others .ensures i) (lent s))
 
-passed : (c : tie.Else1) → let s = start (c .before .before) in before13 (roomy (lent s) (N (its s .mesh))) (its s) .number ≡ 0
-passed c = same-number (answered (c .before .before)) (c .if1 .left)
-
-is-runs-requires : tie.Need-is-runs-requires
-is-runs-requires c κs = search needs
-
-is-runs-requires-2 : tie.Need-is-runs-requires-2
-is-runs-requires-2 c κs = search needs
-
-is-runs-requires-3 : tie.Need-is-runs-requires-3
-is-runs-requires-3 c κs = search needs
-
-before-13-requires : tie.Need-before-13-requires
-before-13-requires c κs = search needs
-
-returns : tie.Need-returns
-returns c = let k = c .before .before in stopped (its (start k)) (lent (start k)) _ (answered k) (c .if1 .taken)
+others-requires : tie.Need-others-requires
+others-requires c κs = search needs
 
 wind-requires : tie.Need-wind-requires
 wind-requires c κs = search needs
 
-advance-requires : tie.Need-advance-requires
-advance-requires c κs =
-    let w = c .before .before .before in
-    let k = w .before in
-    let s = start (k .before .before) in
-    let ok = passed k in
-    (rw (w .wind .ensures) (solving-fits (its s) (lent s) ok), (next-long (its s) (lent s) ok, work-long (its s) (lent s) ok, sums-long (its s) (lent s) ok))
+settle-requires : tie.Need-settle-requires
+settle-requires c κs = search needs
 
 same-length : tie.Need-same-length
 same-length c = search needs
@@ -62,20 +42,16 @@ same-length-2 c = search needs
 same-length-3 : tie.Need-same-length-3
 same-length-3 c = search needs
 
-returns-2 : tie.Need-returns-2
-returns-2 c =
-    let a = c .before .before .before .before .before .before .before .before in
-    let w = a .before .before .before .before in
-    let k = w .before in
-    let s = start (k .before .before) in
-    let e = rw (w .wind .ensures) at (a .advance .ensures) in
-    by-13 (its s) (lent s) (passed k) _ (e .0) _ _ _ (e .1 .0) (e .1 .1 .0) (e .1 .1 .1) (c .if2 .taken)
+returns : tie.Need-returns
+returns c =
+    let k = c .before .before .before .before .before .before .before .before in
+    stayed (its (start k)) (lent (start k)) _ (answered k) (c .if1 .taken)
 
 advanced-requires : tie.Need-advanced-requires
 advanced-requires c κs =
-    let k = c .before .before .before .before .before .before .before .before .before .before .before .before .before in
-    let s = start (k .before .before) in
-    omega (arith, not-last (its s) (lent s) (passed k), s .good)
+    let k = c .before .before .before .before .before .before .before .before in
+    let s = start k in
+    omega (arith, not-last (its s) (lent s) (passed (its s) (lent s) _ (answered k) (c .if1 .left)), s .good)
 
 same-length-4 : tie.Need-same-length-4
 same-length-4 c = search needs
@@ -86,33 +62,25 @@ same-length-5 c = search needs
 same-length-6 : tie.Need-same-length-6
 same-length-6 c = search needs
 
-returns-3 : tie.Need-returns-3
-returns-3 c =
-    let d = c .before in
-    let a = d .before .before .before .before .before .before .before .before in
-    let w = a .before .before .before .before in
-    let k = w .before in
-    let s = start (k .before .before) in
-    let e = rw (w .wind .ensures) at (a .advance .ensures) in
-    went-on (its s) (lent s) (passed k) _ (e .0) _ _ _ (e .1 .0) (e .1 .1 .0) (e .1 .1 .1) (d .if2 .left) _ (c .advanced .ensures)
+returns-2 : tie.Need-returns-2
+returns-2 c =
+    let e = c .before in
+    let k = e .before .before .before .before .before .before .before .before in
+    went-on (its (start k)) (lent (start k)) _ (answered k) (e .if1 .left) _ (c .advanced .ensures)
 
 pub step-spec : {M : Type 1} → statement M
 step-spec =
     tie.close
     (tie.spec
-    is-runs-requires
-    is-runs-requires-2
-    is-runs-requires-3
-    before-13-requires
-    returns
+    others-requires
     wind-requires
-    advance-requires
+    settle-requires
     same-length
     same-length-2
     same-length-3
-    returns-2
+    returns
     advanced-requires
     same-length-4
     same-length-5
     same-length-6
-    returns-3)
+    returns-2)
