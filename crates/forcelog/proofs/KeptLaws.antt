@@ -14,7 +14,7 @@ use Rattle.limits.specs.Limits.{row11, row12Held}
 use Rattle.mesh.specs.Lent.{N}
 use Rattle.surge.specs.Lent.{After}
 use Rattle.surge.specs.Open.{openAnswer, openOf}
-use Rattle.passes.specs.State.{rows1to10}
+use Rattle.bounds.specs.State.{rows1to10}
 use Rattle.surge.specs.State.{windOf}
 use Rattle.surge.specs.Step.{Given, given, advance, stepOf}
 use Rattle.passes.specs.Settle.{Rooms, roomy}

@@ -2,7 +2,7 @@
 use mathlib.Core.Path.{_≡_}
 use mathlib.Core.Bool.{true}
 use Rattle.limits.specs.Limits.{row12Held}
-use Rattle.passes.specs.State.{rows1to10}
+use Rattle.bounds.specs.State.{rows1to10}
 use Rattle.surge.specs.State.{windOf}
 use Rattle.forcelog.specs.declared.Log.{Log}
 use Rattle.forcelog.specs.MeshT.{T, T-parameters}

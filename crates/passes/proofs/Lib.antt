@@ -1,4 +1,3 @@
-pub mod StateLaws
 pub mod PassLaws
 pub mod RoomLaws
 pub mod SolveLaws

@@ -20,7 +20,7 @@ use Rattle.passes.specs.declared.velocity.Slope.{Slope}
 use Rattle.mesh.specs.Lent.{corners}
 use Rattle.mesh.specs.Geometry.{sides, area}
 use Rattle.geometry.specs.Geometry.{floats}
-use Rattle.passes.specs.State.{nodeOf}
+use Rattle.bounds.specs.State.{nodeOf}
 use Rattle.passes.specs.Equations.{Sea, count, triangles, floating, sharesAt, flowOf, pushOf}
 use Rattle.passes.specs.Passes.{Ready, Sloping, SlopingFits, slopeOf, slopeIn, PxIn, PyIn, slopeRoom, Moving, flowIn, flowRoom}
 use Rattle.passes.proofs.RoomLaws.{three-length, run-first, run-second, run-third, read-first, read-second, read-third}

@@ -17,12 +17,12 @@ use Rattle.equations.specs.declared.Parameters.{Parameters}
 use Rattle.equations.specs.declared.Wind.{Wind}
 use Rattle.equations.specs.declared.Forcing.{Forcing}
 use Rattle.mesh.specs.Lent.{Mesh, N}
-use Rattle.passes.specs.State.{rows1to10}
+use Rattle.bounds.specs.State.{rows1to10}
 use Rattle.passes.specs.Equations.{nextState}
 use Rattle.passes.specs.Row13.{row13}
 use Rattle.passes.specs.Settle.{Rooms, roomy, cleared, Settled, settled, settlesTo, seaIn, settleOf}
 use Rattle.passes.specs.Passes.{Solving, solving, SolvingFits}
-use Rattle.passes.proofs.StateLaws.{AcceptedRun, accepted-run}
+use Rattle.bounds.proofs.StateLaws.{AcceptedRun, accepted-run}
 
 module _ (m : Mesh) (p : Parameters) (state : List Float) (w : Wind) (f : Forcing) (also : Answer) (r : Rooms) where
   abbrev pub before : Answer

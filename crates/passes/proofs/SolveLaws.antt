@@ -19,7 +19,8 @@ use Rattle.equations.specs.declared.Flow.{Flow}
 use Rattle.equations.specs.Operations.{_⊕_}
 use Rattle.equations.specs.Elevation.{slope}
 use Rattle.mesh.specs.Lent.{corners}
-use Rattle.passes.specs.State.{inRun, newWind}
+use Rattle.bounds.specs.State.{inRun}
+use Rattle.passes.specs.State.{newWind}
 use Rattle.passes.specs.Equations.{count, triangles, node, floating, sidesAt, R, Sums, riseOf, rise, both, slopeX, slopeY, Px, Py, flowOf, pushOf, flowAt, U′, V′, nextState}
 use Rattle.passes.specs.Row13.{speedOf, row13Level, row13Flow}
 use Rattle.passes.specs.Passes.{Rising, rising, RisingFits, riseIn, heightAt, levelIn, Sloping, sloping, SlopingFits, bothOf, slopeOf, slopeIn, PxIn, PyIn, slopeRoom, Moving, moving, MovingFits, flowIn, speedAt, speedIn, flowRoom, Solving, SolvingFits, risenRoom, solvedRoom}

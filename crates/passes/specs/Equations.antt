@@ -24,7 +24,8 @@ use Rattle.equations.specs.declared.Forcing.{Forcing}
 use Rattle.mesh.specs.Lent.{corners}
 use Rattle.mesh.specs.Geometry.{sides, S}
 use Rattle.geometry.specs.Geometry.{floats}
-use Rattle.passes.specs.State.{nodeOf, newWind}
+use Rattle.bounds.specs.State.{nodeOf}
+use Rattle.passes.specs.State.{newWind}
 
 -- ---- single values
 

@@ -22,7 +22,7 @@ use Rattle.mesh.specs.Lent.{corners}
 use Rattle.mesh.specs.Geometry.{sides}
 use Rattle.geometry.specs.Geometry.{floats}
 use Rattle.mesh.specs.Accepted.{Sound}
-use Rattle.passes.specs.State.{inRun, nodeOf}
+use Rattle.bounds.specs.State.{inRun, nodeOf}
 use Rattle.passes.specs.Row13.{speedOf}
 use Rattle.passes.specs.Equations.{Sea, count, triangles, floating, riseOf, flowOf, pushOf, rise, U′, V′}
 

@@ -13,7 +13,7 @@ use Rattle.equations.specs.declared.Parameters.{Parameters}
 use Rattle.equations.specs.declared.Wind.{Wind}
 use Rattle.equations.specs.declared.Forcing.{Forcing}
 use Rattle.mesh.specs.Lent.{Mesh, N}
-use Rattle.passes.specs.State.{rows1to10}
+use Rattle.bounds.specs.State.{rows1to10}
 use Rattle.passes.specs.Equations.{Sea, sea, nextState}
 use Rattle.passes.specs.Row13.{row13}
 

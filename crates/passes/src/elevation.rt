@@ -24,7 +24,7 @@ ghost use Rattle.lists.specs.Gather.{Below};
 ghost use Rattle.equations.specs.Elevation.{shares};
 ghost use Rattle.equations.specs.Outcomes.{level, answerOf};
 ghost use Rattle.geometry.specs.Geometry.{nodesOf, sidesAt, nearFloats};
-ghost use Rattle.passes.specs.State.{nodeOf};
+ghost use Rattle.bounds.specs.State.{nodeOf};
 ghost use Rattle.passes.specs.Equations.{Sea, sea, count, R, Sums, rise, riseOf};
 ghost use Rattle.passes.specs.Passes.{Ready, Rising, rising, RisingFits, riseIn, heightAt, levelIn, Solving, solving, SolvingFits, risenRoom};
 ghost use Rattle.passes.specs.Row13.{row13Level};

@@ -20,32 +20,10 @@ ghost use lib.ListN.{length};
 ghost use Rattle.lists.specs.Table.{table, zeros};
 ghost use Rattle.lists.specs.Runs.{run};
 ghost use Rattle.mesh.specs.Lent.{mesh};
-ghost use Rattle.passes.specs.State.{rows1to10};
 ghost use Rattle.passes.specs.Equations.{sea, count, nextState};
 ghost use Rattle.passes.specs.Row13.{row13};
 ghost use Rattle.passes.specs.Settle.{lentRooms, settled, settleOf};
 ghost use Rattle.passes.specs.Passes.{Solving, solving, SolvingFits, solvedRoom};
-
-// Rows 1 to 10. `rooms`: the call's slices besides the mesh and the state have their lengths.
-pub fn rows_to_10(
-    rooms: bool,
-    x: &[i32],
-    y: &[i32],
-    tri: &[u16],
-    h: &[f64],
-    kind: &[u8],
-    p: Parameters,
-    state: &[f64],
-) -> Answer
-    ensures { λ r. ⌜ r ≡ rows1to10 rooms (mesh (now (x .entry)) (now (y .entry)) (now (tri .entry)) (now (h .entry)) (now (kind .entry))) p (now (state .entry)) ⌝ }
-{
-    let all = slices::is_runs(state.len(), 4, x.len()) & rooms;
-    let lent = mesh::check(all, false, x, y, tri, h, kind, p);
-    if lent.number != 0 {
-        return lent;
-    }
-    state::nodes(h, state)
-}
 
 // Row 13, with z', U' and V' of every node in the work room where it accepts.
 fn solve(
@@ -140,7 +118,7 @@ pub fn settle(
     let rooms = slices::is_runs(next.len(), 4, n)
         & slices::is_runs(work.len(), 3, n)
         & slices::is_runs(sums.len(), 1, n);
-    let first = rows::first(rows_to_10(rooms, x, y, tri, h, kind, p, state), also);
+    let first = rows::first(bounds::rows_to_10(rooms, x, y, tri, h, kind, p, state), also);
     if first.number != 0 {
         return first;
     }

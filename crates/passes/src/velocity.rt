@@ -26,7 +26,7 @@ ghost use Rattle.lists.specs.Runs.{run, room};
 ghost use Rattle.lists.specs.Scan.{scan, clean};
 ghost use Rattle.lists.specs.Gather.{Below, alike, spread};
 ghost use Rattle.geometry.specs.Geometry.{nodesOf};
-ghost use Rattle.passes.specs.State.{nodeOf};
+ghost use Rattle.bounds.specs.State.{nodeOf};
 ghost use Rattle.passes.specs.Equations.{sea, count, Sums, floating, threeOf, flowOf, pushOf};
 ghost use Rattle.passes.specs.Row13.{speedOf, row13Flow};
 ghost use Rattle.passes.specs.Passes.{bothOf, slopeOf, Sloping, sloping, SlopingFits, slopeRoom, Moving, moving, MovingFits, flowRoom, speedAt, speedIn, Solving, solving, SolvingFits, risenRoom, solvedRoom};

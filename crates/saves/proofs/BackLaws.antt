@@ -18,7 +18,7 @@ use Rattle.frames.specs.Reading.{value, fault}
 use Rattle.frames.proofs.BackLaws.{line-fine, field-back}
 use Rattle.frames.proofs.PatternLaws.{pattern-fits, float-back}
 use Rattle.surge.specs.declared.Clock.{Clock}
-use Rattle.passes.specs.State.{nodeOf}
+use Rattle.bounds.specs.State.{nodeOf}
 use Rattle.saves.specs.Lines.{head, stateValues, nodeLine, end, nodeLayout, endLayout, layoutAt, due, bits}
 use Rattle.saves.specs.Held.{HeldClock, HeldState}
 use Rattle.saves.specs.Save.{lineOf, linesTo, saveText}

@@ -15,7 +15,7 @@ use Rattle.mesh.specs.Lent.{Mesh, N}
 use Rattle.surge.specs.Lent.{After, after}
 use Rattle.mesh.specs.Rows.{rows1to9}
 use Rattle.limits.specs.Limits.{inBounds, row12Held}
-use Rattle.passes.specs.State.{rows1to10}
+use Rattle.bounds.specs.State.{rows1to10}
 use Rattle.surge.specs.State.{windOf}
 use Rattle.mesh.proofs.AcceptedLaws.{accepted, accepted-rooms}
 use Rattle.surge.proofs.KeptLaws.{four-tables, four-long, in-bounds}

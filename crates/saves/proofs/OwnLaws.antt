@@ -23,10 +23,10 @@ use Rattle.surge.specs.declared.Clock.{Clock}
 use Rattle.mesh.specs.Lent.{Mesh, N, E}
 use Rattle.surge.specs.Lent.{after}
 use Rattle.limits.specs.Limits.{inBounds, row12Held}
-use Rattle.passes.specs.State.{inRun, nodeOf, row10, rows1to10}
+use Rattle.bounds.specs.State.{inRun, nodeOf, row10, rows1to10}
 use Rattle.surge.specs.State.{windOf}
 use Rattle.mesh.specs.Accepted.{Sized}
-use Rattle.passes.proofs.StateLaws.{AcceptedRun, accepted-run}
+use Rattle.bounds.proofs.StateLaws.{AcceptedRun, accepted-run}
 use Rattle.saves.specs.Held.{HeldClock, HeldState}
 use Rattle.saves.specs.Lines.{saveLength}
 use Rattle.saves.specs.Save.{saveText, saveAnswer, saveOf}

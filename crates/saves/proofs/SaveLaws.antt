@@ -13,7 +13,7 @@ use Rattle.equations.specs.declared.Parameters.{Parameters}
 use Rattle.surge.specs.declared.Clock.{Clock}
 use Rattle.mesh.specs.Lent.{Mesh, N, E}
 use Rattle.limits.specs.Limits.{row12Held}
-use Rattle.passes.specs.State.{rows1to10}
+use Rattle.bounds.specs.State.{rows1to10}
 use Rattle.surge.specs.State.{windOf}
 use Rattle.saves.specs.Lines.{saveLength}
 use Rattle.saves.specs.Save.{saveText, row24, saveAnswer, saveOut, wrote, saveOf}

@@ -81,7 +81,7 @@ pub fn save(
 ) -> Answer
     ensures { λ r. ⌜ saveOut r (now (text .exit)) ≡ saveOf (mesh (now (x .entry)) (now (y .entry)) (now (tri .entry)) (now (h .entry)) (now (kind .entry))) p (now (state .entry)) clock (now (text .entry)) ⌝ }
 {
-    let lent = passes::rows_to_10(true, x, y, tri, h, kind, p, state);
+    let lent = bounds::rows_to_10(true, x, y, tri, h, kind, p, state);
     if lent.number != 0 {
         return lent;
     }

@@ -15,7 +15,7 @@ use Rattle.mesh.specs.Geometry.{sides, area}
 use Rattle.geometry.specs.Geometry.{allNear, floats}
 use Rattle.mesh.specs.Rows.{row1, row2, allBelow, row3, row4, row5, rows3to5, isLeg, row6, row6If, isNamed, row7, row8, rows1to9}
 use Rattle.surge.specs.Open.{openAnswer, openOf}
-use Rattle.passes.specs.State.{row10, rows1to10}
+use Rattle.bounds.specs.State.{row10, rows1to10}
 use Rattle.passes.specs.Equations.{riseOf, flowOf, sharesAt, rise, slopeX, slopeY, flowAt, nextState}
 use Rattle.passes.specs.Row13.{row13Level, speedOf, row13Flow, row13}
 use Rattle.surge.specs.Step.{advance, before13, stepsTo, stepOf}

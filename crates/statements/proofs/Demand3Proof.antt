@@ -11,7 +11,7 @@ use Rattle.surge.specs.Lent.{After}
 use Rattle.mesh.specs.Rows.{rows1to9}
 use Rattle.surge.specs.Open.{openAnswer, openOf}
 use Rattle.limits.specs.Limits.{row12Held}
-use Rattle.passes.specs.State.{rows1to10}
+use Rattle.bounds.specs.State.{rows1to10}
 use Rattle.surge.specs.State.{windOf}
 use Rattle.surge.specs.Step.{Given, given, Held, StepOut, advance}
 use Rattle.passes.specs.Settle.{Rooms}

@@ -77,8 +77,8 @@ use Rattle.frames.proofs.lines.put.Kinds as put-kinds
 use Rattle.frames.proofs.lines.put.Reads as put-reads
 use Rattle.lists.proofs.slices.clear_whole.Kinds as clear-whole-kinds
 use Rattle.lists.proofs.slices.clear_whole.Reads as clear-whole-reads
-use Rattle.passes.proofs.rows_to_10.Kinds as rows-to-10-kinds
-use Rattle.passes.proofs.rows_to_10.Reads as rows-to-10-reads
+use Rattle.bounds.proofs.rows_to_10.Kinds as rows-to-10-kinds
+use Rattle.bounds.proofs.rows_to_10.Reads as rows-to-10-reads
 use Rattle.saves.proofs.read_forcing.Kinds as read-forcing-kinds
 use Rattle.saves.proofs.read_forcing.Reads as read-forcing-reads
 use Rattle.saves.proofs.save.Kinds as save-kinds

@@ -33,14 +33,14 @@ use Rattle.mesh.specs.Lent.{Mesh, N}
 use Rattle.surge.specs.Lent.{coldState, coldClock}
 use Rattle.mesh.specs.Rows.{row1, row6If, rows1to9}
 use Rattle.limits.specs.Limits.{inBounds, row12Held, row12New}
-use Rattle.passes.specs.State.{inRun, nodeOf, row10, rows1to10}
+use Rattle.bounds.specs.State.{inRun, nodeOf, row10, rows1to10}
 use Rattle.surge.specs.State.{windOf}
 use Rattle.passes.specs.Equations.{Sea, count, node, rise, flowAt, U′, V′, nextState}
 use Rattle.surge.specs.Step.{Given, seaOf, advance, before13, StepOut, refusedBefore, refusedBy13, wentOn, stepsTo, stepOf}
 use Rattle.passes.specs.Row13.{row13Level, speedOf, row13Flow, row13}
 use Rattle.passes.specs.Settle.{Rooms, roomy}
 use Rattle.mesh.proofs.AcceptedLaws.{accepted, accepted-rooms}
-use Rattle.passes.proofs.StateLaws.{bounds-held}
+use Rattle.bounds.proofs.StateLaws.{bounds-held}
 
 -- ---- a step's outcome
 module _ (g : Given) (r : Rooms) where

@@ -16,7 +16,7 @@ use Rattle.equations.specs.declared.Forcing.{Forcing}
 use Rattle.mesh.specs.Lent.{Mesh}
 use Rattle.mesh.specs.Rows.{row1, row2, row3, row4, row5, rows3to5, row6, row6If, row7, row8, rows1to9}
 use Rattle.limits.specs.Limits.{row9, row11, row12Held, row12New}
-use Rattle.passes.specs.State.{row10, rows1to10}
+use Rattle.bounds.specs.State.{row10, rows1to10}
 use Rattle.passes.specs.Equations.{Sea, count, node, rise, flowAt}
 use Rattle.surge.specs.Step.{Given, before13}
 use Rattle.passes.specs.Row13.{row13Level, speedOf, row13Flow, row13}

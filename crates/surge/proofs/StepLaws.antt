@@ -9,7 +9,8 @@ use Rattle.lists.specs.Scan.{_then_}
 use Rattle.lists.proofs.ScanLaws.{row-passed, then-first, then-rest}
 use Rattle.limits.specs.Limits.{row11, row12Held, row12New}
 use Rattle.mesh.specs.Lent.{N}
-use Rattle.passes.specs.State.{rows1to10, newWind}
+use Rattle.bounds.specs.State.{rows1to10}
+use Rattle.passes.specs.State.{newWind}
 use Rattle.passes.specs.Equations.{nextState}
 use Rattle.passes.specs.Row13.{row13}
 use Rattle.passes.specs.Settle.{Rooms, roomy, cleared, Settled, settlesTo, settleOf}

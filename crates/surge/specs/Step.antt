@@ -12,7 +12,8 @@ use Rattle.equations.specs.declared.Forcing.{Forcing}
 use Rattle.surge.specs.declared.Reply.{Reply}
 use Rattle.mesh.specs.Lent.{Mesh, N}
 use Rattle.limits.specs.Limits.{row11, row12Held, row12New}
-use Rattle.passes.specs.State.{rows1to10, newWind}
+use Rattle.bounds.specs.State.{rows1to10}
+use Rattle.passes.specs.State.{newWind}
 use Rattle.surge.specs.State.{windOf, advanced}
 use Rattle.passes.specs.Equations.{Sea, sea, nextState}
 use Rattle.passes.specs.Row13.{row13}

@@ -4,7 +4,7 @@ use borrow.Author.Needs.{needs}
 use Rattle.lists.specs.Scan.{_then_}
 use Rattle.lists.proofs.ScanLaws.{same-number}
 use Rattle.mesh.specs.Lent.{Mesh, mesh}
-use Rattle.passes.specs.State.{rows1to10}
+use Rattle.bounds.specs.State.{rows1to10}
 use Rattle.passes.specs.Settle.{Rooms, lentRooms}
 use Rattle.passes.proofs.SettleLaws as laws
 use Rattle.passes.proofs.settle.Statement.{statement}

@@ -6,9 +6,9 @@ use Rattle.lists.specs.Scan.{_then_}
 use Rattle.lists.proofs.ScanLaws.{same-number}
 use Rattle.mesh.specs.Lent.{Mesh, mesh, N}
 use Rattle.limits.specs.Limits.{row12Held}
-use Rattle.passes.specs.State.{rows1to10}
+use Rattle.bounds.specs.State.{rows1to10}
 use Rattle.surge.specs.State.{windOf}
-use Rattle.passes.proofs.StateLaws.{accepted-run}
+use Rattle.bounds.proofs.StateLaws.{accepted-run}
 use Rattle.saves.specs.Save.{row24}
 use Rattle.saves.proofs.SaveLaws.{stopped, stopped-after, roomy, saved}
 use borrow.Author.Needs.{needs}

@@ -13,7 +13,7 @@ use Rattle.equations.specs.declared.Parameters.{Parameters}
 use Rattle.limits.specs.Limits.{inBounds}
 use Rattle.mesh.specs.Lent.{Mesh, N}
 use Rattle.mesh.specs.Rows.{rows1to9}
-use Rattle.passes.specs.State.{nodeOf, row10, rows1to10}
+use Rattle.bounds.specs.State.{nodeOf, row10, rows1to10}
 use Rattle.mesh.specs.Accepted.{Accepted}
 use Rattle.mesh.proofs.AcceptedLaws.{accepted, accepted-rooms}
 

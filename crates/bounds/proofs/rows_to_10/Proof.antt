@@ -9,10 +9,10 @@ use Rattle.lists.specs.Scan.{scan}
 use Rattle.lists.proofs.ScanLaws.{same-number, stops, goes, both-left}
 use Rattle.mesh.specs.Lent.{Mesh, mesh, N}
 use Rattle.mesh.specs.Rows.{rows1to9}
-use Rattle.passes.specs.State.{row10, rows1to10}
+use Rattle.bounds.specs.State.{row10, rows1to10}
 use Rattle.mesh.proofs.AcceptedLaws.{accepted, accepted-rooms}
-use Rattle.passes.proofs.rows_to_10.Statement.{statement}
-use Rattle.passes.proofs.rows_to_10.Tie as tie
+use Rattle.bounds.proofs.rows_to_10.Statement.{statement}
+use Rattle.bounds.proofs.rows_to_10.Tie as tie
 
 abbrev start : tie.After-check → tie.Start
 start c = c .before .before .before .before .before .before

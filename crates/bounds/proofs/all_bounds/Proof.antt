@@ -5,9 +5,9 @@ use borrow.Author.Needs.{needs}
 use lib.ListN.{length}
 use Rattle.lists.specs.Scan.{clean}
 use Rattle.lists.proofs.ScanLaws.{clean-turn}
-use Rattle.passes.specs.State.{row10}
-use Rattle.passes.proofs.state.all_bounds.Statement.{statement}
-use Rattle.passes.proofs.state.all_bounds.Tie as tie
+use Rattle.bounds.specs.State.{row10}
+use Rattle.bounds.proofs.all_bounds.Statement.{statement}
+use Rattle.bounds.proofs.all_bounds.Tie as tie
 
 -- whether every node passed so far accepts
 abbrev Inv-loop : tie.InvT-loop

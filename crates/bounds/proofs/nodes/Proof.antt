@@ -4,9 +4,9 @@ use native.Mathlib.Omega.{arith}
 use borrow.Author.Count.{below-none, below-more}
 use borrow.Author.Needs.{needs}
 use Rattle.lists.proofs.ScanLaws.{scan-none, scan-hit, clean-scan, same-number, other-number}
-use Rattle.passes.specs.State.{row10}
-use Rattle.passes.proofs.state.nodes.Statement.{statement}
-use Rattle.passes.proofs.state.nodes.Tie as tie
+use Rattle.bounds.specs.State.{row10}
+use Rattle.bounds.proofs.nodes.Statement.{statement}
+use Rattle.bounds.proofs.nodes.Tie as tie
 
 -- no node passed so far refuses
 abbrev Inv-loop : tie.InvT-loop

@@ -1,7 +1,7 @@
 use borrow.Author.Needs.{needs}
-use Rattle.passes.specs.State.{row10}
-use Rattle.passes.proofs.state.bound.Statement.{statement}
-use Rattle.passes.proofs.state.bound.Tie as tie
+use Rattle.bounds.specs.State.{row10}
+use Rattle.bounds.proofs.bound.Statement.{statement}
+use Rattle.bounds.proofs.bound.Tie as tie
 
 node-of-requires : tie.Need-node-of-requires
 node-of-requires c κs = search needs

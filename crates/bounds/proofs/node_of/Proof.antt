@@ -5,8 +5,8 @@ use native.Mathlib.Omega.{arith}
 use lib.ListN.{length, getD}
 use lib.Ieee.{nan}
 use borrow.Author.Needs.{needs}
-use Rattle.passes.proofs.state.node_of.Statement.{statement}
-use Rattle.passes.proofs.state.node_of.Tie as tie
+use Rattle.bounds.proofs.node_of.Statement.{statement}
+use Rattle.bounds.proofs.node_of.Tie as tie
 
 mul-t5 : tie.Need-mul-t5
 mul-t5 c = search needs
