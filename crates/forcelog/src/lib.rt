@@ -1,8 +1,8 @@
 // A log of forcing lines, taken one by one on mesh T: what the printing program does, but for its reading and writing.
+use equations::Forcing;
 use equations::Parameters;
 use lists::rows::Answer;
 use surge::Clock;
-use equations::Forcing;
 ghost use mathlib.Core.Path.{_≡_};
 ghost use Rattle.saves.specs.Save.{saveOut};
 ghost use Rattle.forcelog.specs.Log.{coldLog, stepped, refusedAt, afterStep, takeOf, endOf};

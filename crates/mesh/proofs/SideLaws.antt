@@ -5,7 +5,6 @@ use mathlib.Core.List.{List}
 use lib.IntN.{ℤ}
 use Rattle.lists.specs.Gather.{Three}
 use Rattle.geometry.specs.declared.Places.{Places}
-use Rattle.geometry.specs.declared.WholeSides.{WholeSides}
 use Rattle.geometry.specs.Geometry.{sidesAt}
 use Rattle.mesh.specs.Geometry.{placesOf, sides}
 

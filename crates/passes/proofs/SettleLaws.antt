@@ -1,7 +1,7 @@
 -- What is known past rows 1 to 10 and what else was asked, and the outcomes of the passes.
 use Prim.Native.Nat.{ℕ, _*_}
-use mathlib.Core.Path.{_≡_, refl, sym, ap, _∙_}
-use mathlib.Core.Bool.{Bool, true, false, cond, _&&_}
+use mathlib.Core.Path.{_≡_, sym, ap, _∙_}
+use mathlib.Core.Bool.{true, cond, _&&_}
 use mathlib.Core.List.{List}
 use native.Mathlib.Nat.{one-mul}
 use borrow.Author.Tests.{eqb-true, eq-eqb, ne-eqb}
@@ -12,7 +12,7 @@ use Rattle.lists.specs.declared.rows.Answer.{Answer}
 use Rattle.lists.specs.Table.{table, zeros}
 use Rattle.lists.specs.Runs.{isRuns}
 use Rattle.lists.specs.Scan.{_then_}
-use Rattle.lists.proofs.ScanLaws.{then-first, same-number, other-number, both-left, both-right}
+use Rattle.lists.proofs.ScanLaws.{then-first, other-number, both-left, both-right}
 use Rattle.equations.specs.declared.Parameters.{Parameters}
 use Rattle.equations.specs.declared.Wind.{Wind}
 use Rattle.equations.specs.declared.Forcing.{Forcing}
@@ -20,8 +20,8 @@ use Rattle.mesh.specs.Lent.{Mesh, N}
 use Rattle.bounds.specs.State.{rows1to10}
 use Rattle.passes.specs.Equations.{nextState}
 use Rattle.passes.specs.Row13.{row13}
-use Rattle.passes.specs.Settle.{Rooms, roomy, cleared, Settled, settled, settlesTo, seaIn, settleOf}
-use Rattle.passes.specs.Passes.{Solving, solving, SolvingFits}
+use Rattle.passes.specs.Settle.{Rooms, roomy, settled, settlesTo, seaIn, settleOf}
+use Rattle.passes.specs.Passes.{solving, SolvingFits}
 use Rattle.bounds.proofs.StateLaws.{AcceptedRun, accepted-run}
 
 module _ (m : Mesh) (p : Parameters) (state : List Float) (w : Wind) (f : Forcing) (also : Answer) (r : Rooms) where
@@ -84,6 +84,6 @@ module _ (m : Mesh) (p : Parameters) (state : List Float) (w : Wind) (f : Forcin
     unfolding settleOf settlesTo
     worked a e next work sums en ew es =
         (λ i. settled (e i) ((en ∙ ap (λ (b : Answer). cond (eqb (b .number) 0) new (r .next)) e) i)
-          ((ew ∙ ap (λ (n : ℕ). zeros (3 * n)) depths) i)
-          ((es ∙ ap (λ (n : ℕ). table n (λ _. 0)) depths) i))
+        ((ew ∙ ap (λ (n : ℕ). zeros (3 * n)) depths) i)
+        ((es ∙ ap (λ (n : ℕ). table n (λ _. 0)) depths) i))
         ∙ rw (eq-eqb _ _ ok)

@@ -1,5 +1,5 @@
 -- The passes together: what each leaves is what the document's node by node definitions say.
-use Prim.Native.Nat.{ℕ, _+_, _*_, _^_, _<_, _≤_}
+use Prim.Native.Nat.{ℕ, _+_, _*_, _<_}
 use mathlib.Core.Path.{_≡_, sym, ap, _∙_}
 use mathlib.Core.List.{List, [], _∷_, _++_}
 use native.Mathlib.Nat.{one-mul}
@@ -24,7 +24,7 @@ use Rattle.passes.specs.State.{newWind}
 use Rattle.passes.specs.Equations.{count, triangles, node, floating, sidesAt, R, Sums, riseOf, rise, both, slopeX, slopeY, Px, Py, flowOf, pushOf, flowAt, U′, V′, nextState}
 use Rattle.passes.specs.Row13.{speedOf, row13Level, row13Flow}
 use Rattle.passes.specs.Passes.{Rising, rising, RisingFits, riseIn, heightAt, levelIn, Sloping, sloping, SlopingFits, bothOf, slopeOf, slopeIn, PxIn, PyIn, slopeRoom, Moving, moving, MovingFits, flowIn, speedAt, speedIn, flowRoom, Solving, SolvingFits, risenRoom, solvedRoom}
-use Rattle.passes.proofs.PassLaws.{S-small, corners-below}
+use Rattle.passes.proofs.PassLaws.{corners-below}
 use Rattle.passes.proofs.RoomLaws.{three-length, run-first, run-second, run-third, read-second, read-third}
 
 module _ (v : Solving) (z : SolvingFits v) where

@@ -1,17 +1,16 @@
 // "Elevation": R and S of every node in one pass over the triangles, then z'.
-use equations::Forcing;
-
-use geometry::Corners;
-use geometry::Places;
 use super::reading;
 use super::state;
 use super::sums;
+use equations::Forcing;
 use equations::Node;
 use equations::Parameters;
 use equations::Shares;
 use equations::Wind;
 use equations::elevation;
 use equations::outcomes;
+use geometry::Corners;
+use geometry::Places;
 use lists::rows;
 use lists::rows::Answer;
 use lists::slices;

@@ -118,7 +118,10 @@ pub fn settle(
     let rooms = slices::is_runs(next.len(), 4, n)
         & slices::is_runs(work.len(), 3, n)
         & slices::is_runs(sums.len(), 1, n);
-    let first = rows::first(bounds::rows_to_10(rooms, x, y, tri, h, kind, p, state), also);
+    let first = rows::first(
+        bounds::rows_to_10(rooms, x, y, tri, h, kind, p, state),
+        also,
+    );
     if first.number != 0 {
         return first;
     }

@@ -1,11 +1,9 @@
 // "Velocity": Px and Py of every node in one pass over the triangles, then U' and V'.
-use equations::Forcing;
-
-use geometry::Corners;
 use super::reading;
 use super::state;
 use super::sums;
 use equations::Flow;
+use equations::Forcing;
 use equations::Parameters;
 use equations::Push;
 use equations::Shares;
@@ -14,6 +12,7 @@ use equations::Wind;
 use equations::elevation;
 use equations::outcomes;
 use equations::velocity;
+use geometry::Corners;
 use lists::rows;
 use lists::rows::Answer;
 ghost use mathlib.Core.Path.{_≡_};

@@ -2,6 +2,7 @@
 pub(crate) mod loading;
 pub(crate) mod writing;
 
+use equations::Forcing;
 use equations::Parameters;
 use equations::Wind;
 use frames::patterns;
@@ -10,7 +11,6 @@ use lists::rows;
 use lists::rows::Answer;
 use lists::slices;
 use surge::Clock;
-use equations::Forcing;
 use surge::Reply;
 ghost use mathlib.Core.Path.{_≡_};
 ghost use Rattle.limits.specs.Limits.{row12Held};

@@ -1,19 +1,16 @@
 -- A step is its passes, with rows 11 and 12 asked between: the clock goes on where they accept.
-use Prim.Native.Nat.{ℕ}
 use mathlib.Core.Path.{_≡_, refl, sym, ap, _∙_}
-use mathlib.Core.Bool.{Bool, true, false, cond, not}
-use borrow.Author.Tests.{eqb-true, eqb-false, eq-eqb, ne-eqb, not-true}
+use mathlib.Core.Bool.{Bool, true, false, not}
+use borrow.Author.Tests.{eqb-true, eqb-false, not-true}
 use lib.Dec.{eqb}
 use Rattle.lists.specs.declared.rows.Answer.{Answer}
 use Rattle.lists.specs.Scan.{_then_}
 use Rattle.lists.proofs.ScanLaws.{row-passed, then-first, then-rest}
 use Rattle.limits.specs.Limits.{row11, row12Held, row12New}
 use Rattle.mesh.specs.Lent.{N}
-use Rattle.bounds.specs.State.{rows1to10}
 use Rattle.passes.specs.State.{newWind}
 use Rattle.passes.specs.Equations.{nextState}
-use Rattle.passes.specs.Row13.{row13}
-use Rattle.passes.specs.Settle.{Rooms, roomy, cleared, Settled, settlesTo, settleOf}
+use Rattle.passes.specs.Settle.{Rooms, roomy, Settled, settlesTo, settleOf}
 use Rattle.surge.specs.declared.Clock.{Clock}
 use Rattle.surge.specs.State.{windOf, advanced}
 use Rattle.surge.specs.Step.{Given, seaOf, advance, before13, StepOut, stepsTo, stepOf}

@@ -119,7 +119,21 @@ pub fn step(
     ensures { λ r. ⌜ stepOut r (now (next .exit)) (now (work .exit)) (now (sums .exit)) ≡ stepOf (given (mesh (now (x .entry)) (now (y .entry)) (now (tri .entry)) (now (h .entry)) (now (kind .entry))) p (now (state .entry)) clock f) (lentRooms (now (next .entry)) (now (work .entry)) (now (sums .entry))) ⌝ }
 {
     let also = others(clock, f);
-    let answer = passes::settle(next, work, sums, x, y, tri, h, kind, p, state, clock.wind(), f, also);
+    let answer = passes::settle(
+        next,
+        work,
+        sums,
+        x,
+        y,
+        tri,
+        h,
+        kind,
+        p,
+        state,
+        clock.wind(),
+        f,
+        also,
+    );
     if answer.number != 0 {
         return Reply { answer, clock };
     }

@@ -20,15 +20,6 @@ loop-holds : tie.Need-loop-holds Inv-loop μ-loop
 unfolding clean
 loop-holds c = (search needs, refl)
 
-bound-requires : tie.Need-bound-requires Inv-loop μ-loop
-bound-requires c κs = search needs
-
-add-i : tie.Need-add-i Inv-loop μ-loop
-add-i c = search needs
-
-loop-less : tie.Need-loop-less Inv-loop μ-loop
-loop-less c = search needs
-
 loop-again : tie.Need-loop-again Inv-loop μ-loop
 loop-again c = (search needs, clean-turn _ _ (c .before .before .before .loop .inv .1) (c .before .bound .ensures))
 
@@ -40,6 +31,4 @@ returns c =
     l .loop .inv .1 ∙ ap (clean (row10 (a .h .now) (a .state .now))) all
 
 pub all-bounds-spec : {M : Type 1} → statement M
-all-bounds-spec =
-    tie.close
-    (tie.spec Inv-loop μ-loop loop-holds bound-requires add-i loop-less loop-again returns)
+all-bounds-spec = tie.close (tie.spec Inv-loop μ-loop loop-holds (λ c κs. search needs) (λ c. search needs) (λ c. search needs) loop-again returns)

@@ -15,12 +15,6 @@ Inv-loop h state i₀ i-end i = (i ≤ i-end) × ((k : ℕ) → k < i → row10 
 abbrev μ-loop : tie.MeasureT-loop
 μ-loop h state i₀ i-end i = i-end - i
 
-all-bounds-requires : tie.Need-all-bounds-requires Inv-loop μ-loop
-all-bounds-requires c κs = search needs
-
-accept-requires : tie.Need-accept-requires Inv-loop μ-loop
-accept-requires c κs = search needs
-
 returns : tie.Need-returns Inv-loop μ-loop
 returns c =
     let t = c .before .before in
@@ -29,27 +23,15 @@ returns c =
 loop-holds : tie.Need-loop-holds Inv-loop μ-loop
 loop-holds c = (search needs, below-none _)
 
-bound-requires : tie.Need-bound-requires Inv-loop μ-loop
-bound-requires c κs = search needs
-
 returns-2 : tie.Need-returns-2 Inv-loop μ-loop
 returns-2 c =
     let t = c .before .before in
     t .bound .ensures ∙ sym (scan-hit _ _ _ (t .before .loop-test .taken) (t .before .before .loop .inv .1) (other-number (t .bound .ensures) (c .if2 .taken)))
 
-add-i : tie.Need-add-i Inv-loop μ-loop
-add-i c = search needs
-
-loop-less : tie.Need-loop-less Inv-loop μ-loop
-loop-less c = search needs
-
 loop-again : tie.Need-loop-again Inv-loop μ-loop
 loop-again c =
     let t = c .before .before in
     (search needs, below-more _ _ (t .before .before .loop .inv .1) (same-number (t .bound .ensures) (c .if2 .left)))
-
-accept-requires-2 : tie.Need-accept-requires-2 Inv-loop μ-loop
-accept-requires-2 c κs = search needs
 
 returns-3 : tie.Need-returns-3 Inv-loop μ-loop
 returns-3 c = c .accept2 .ensures ∙ sym (scan-none _ _ (λ k h. c .before .before .loop .inv .1 k (omega arith)))
@@ -57,17 +39,5 @@ returns-3 c = c .accept2 .ensures ∙ sym (scan-none _ _ (λ k h. c .before .bef
 pub nodes-spec : {M : Type 1} → statement M
 nodes-spec =
     tie.close
-    (tie.spec
-    Inv-loop
-    μ-loop
-    all-bounds-requires
-    accept-requires
-    returns
-    loop-holds
-    bound-requires
-    returns-2
-    add-i
-    loop-less
-    loop-again
-    accept-requires-2
-    returns-3)
+    (tie.spec Inv-loop μ-loop (λ c κs. search needs) (λ c κs. search needs) returns loop-holds (λ c κs. search needs) returns-2 (λ c. search needs)
+    (λ c. search needs) loop-again (λ c κs. search needs) returns-3)

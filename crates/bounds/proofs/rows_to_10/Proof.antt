@@ -33,12 +33,6 @@ passed c = same-number (answered (c .before .before)) (c .if1 .left)
 depths : (c : tie.Else1) → let k = c .before .before in length (net k .h) ≡ N (net k)
 depths c = accepted _ _ _ _ (passed c) .sized .h
 
-is-runs-requires : tie.Need-is-runs-requires
-is-runs-requires c κs = search needs
-
-check-requires : tie.Need-check-requires
-check-requires c κs = search needs
-
 returns : tie.Need-returns
 unfolding rows1to10
 returns c = stops _ (answered (c .before .before)) (c .if1 .taken)
@@ -58,5 +52,4 @@ returns-2 c =
     goes _ (passed (c .before)) (c .nodes .ensures ∙ ap (scan (row10 (m .h) (start k .args .state .now))) (depths (c .before)))
 
 pub rows-to-10-spec : {M : Type 1} → statement M
-rows-to-10-spec =
-    tie.close (tie.spec is-runs-requires check-requires returns nodes-requires returns-2)
+rows-to-10-spec = tie.close (tie.spec (λ c κs. search needs) (λ c κs. search needs) returns nodes-requires returns-2)

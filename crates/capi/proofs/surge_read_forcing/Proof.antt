@@ -2,11 +2,8 @@ use borrow.Author.Needs.{needs}
 use Rattle.capi.proofs.surge_read_forcing.Statement.{statement}
 use Rattle.capi.proofs.surge_read_forcing.Tie as tie
 
-read-forcing-requires : tie.Need-read-forcing-requires
-read-forcing-requires c κs = search needs
-
 returns : tie.Need-returns
 returns c = c .read-forcing .ensures
 
 pub surge-read-forcing-spec : {M : Type 1} → statement M
-surge-read-forcing-spec = tie.close (tie.spec read-forcing-requires returns)
+surge-read-forcing-spec = tie.close (tie.spec (λ c κs. search needs) returns)

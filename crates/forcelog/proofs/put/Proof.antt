@@ -22,29 +22,14 @@ long c =
 loop-holds : tie.Need-loop-holds Inv-loop μ-loop
 loop-holds c = let a = c .args in (omega arith, paste-zero (a .text .now) (a .at) (a .part .now))
 
-shared-slice-read-text : tie.Need-shared-slice-read-text Inv-loop μ-loop
-shared-slice-read-text c = omega arith
-
-add-text : tie.Need-add-text Inv-loop μ-loop
-add-text c = omega arith
-
 slice-write-text : tie.Need-slice-write-text Inv-loop μ-loop
 slice-write-text c = omega (arith, long (c .before .before))
-
-add-k : tie.Need-add-k Inv-loop μ-loop
-add-k c = omega arith
-
-loop-less : tie.Need-loop-less Inv-loop μ-loop
-loop-less c = omega arith
 
 loop-again : tie.Need-loop-again Inv-loop μ-loop
 loop-again c =
     let p = c .before .before in
     let a = p .before .args in
     (omega arith, rw (p .loop .inv .1, add-one) (paste-suc (a .text .now) (a .at) (a .part .now) (p .loop .k) 0 (omega arith) (omega arith)))
-
-add-result : tie.Need-add-result Inv-loop μ-loop
-add-result c = omega arith
 
 same-length : tie.Need-same-length Inv-loop μ-loop
 same-length c = long (c .before)
@@ -60,16 +45,5 @@ returns c =
 pub put-spec : {M : Type 1} → statement M
 put-spec =
     tie.close
-    (tie.spec
-    Inv-loop
-    μ-loop
-    loop-holds
-    shared-slice-read-text
-    add-text
-    slice-write-text
-    add-k
-    loop-less
-    loop-again
-    add-result
-    same-length
-    returns)
+    (tie.spec Inv-loop μ-loop loop-holds (λ c. omega arith) (λ c. omega arith) slice-write-text (λ c. omega arith) (λ c. omega arith) loop-again
+    (λ c. omega arith) same-length returns)

@@ -64,62 +64,14 @@ at3 c = omega (arith, c .put3 .ensures .0, at2 (c .before .before .before .befor
 at4 : (c : tie.After-put4) → c .put4 .result ≤ 52
 at4 c = omega (arith, c .put4 .ensures .0, at3 (c .before .before .before .before), few2 (second (c .before)))
 
-cast-decimal : tie.Need-cast-decimal
-cast-decimal c = search needs
-
-decimal-requires : tie.Need-decimal-requires
-decimal-requires c κs = search needs
-
-decimal-requires-2 : tie.Need-decimal-requires-2
-decimal-requires-2 c κs = search needs
-
-slice-aggregate-put : tie.Need-slice-aggregate-put
-slice-aggregate-put c = search needs
-
-slice-aggregate-put-2 : tie.Need-slice-aggregate-put-2
-slice-aggregate-put-2 c = search needs
-
-put-requires : tie.Need-put-requires
-put-requires c κs = search needs
-
-slice-aggregate-put-3 : tie.Need-slice-aggregate-put-3
-slice-aggregate-put-3 c = search needs
-
-array-share-prefix-number : tie.Need-array-share-prefix-number
-array-share-prefix-number c = search needs
-
-slice-aggregate-put-4 : tie.Need-slice-aggregate-put-4
-slice-aggregate-put-4 c = search needs
-
 put-requires-2 : tie.Need-put-requires-2
 put-requires-2 c κs = let z : length (c .before .before .before .put .last .0) ≡ 53 = search needs in omega (arith, c .before .before .before .put .ensures .0, few1 (first c))
-
-slice-aggregate-put-5 : tie.Need-slice-aggregate-put-5
-slice-aggregate-put-5 c = search needs
-
-slice-aggregate-put-6 : tie.Need-slice-aggregate-put-6
-slice-aggregate-put-6 c = search needs
 
 put-requires-3 : tie.Need-put-requires-3
 put-requires-3 c κs = let z : length (c .before .before .before .put2 .last .0) ≡ 53 = search needs in omega (arith, at2 (c .before .before .before))
 
-slice-aggregate-put-7 : tie.Need-slice-aggregate-put-7
-slice-aggregate-put-7 c = search needs
-
-array-share-prefix-place : tie.Need-array-share-prefix-place
-array-share-prefix-place c = search needs
-
-slice-aggregate-put-8 : tie.Need-slice-aggregate-put-8
-slice-aggregate-put-8 c = search needs
-
 put-requires-4 : tie.Need-put-requires-4
 put-requires-4 c κs = let z : length (c .before .before .before .put3 .last .0) ≡ 53 = search needs in omega (arith, at3 (c .before .before .before), few2 (second c))
-
-slice-aggregate-put-9 : tie.Need-slice-aggregate-put-9
-slice-aggregate-put-9 c = search needs
-
-slice-aggregate-put-10 : tie.Need-slice-aggregate-put-10
-slice-aggregate-put-10 c = search needs
 
 put-requires-5 : tie.Need-put-requires-5
 put-requires-5 c κs = let z : length (c .before .before .before .put4 .last .0) ≡ 53 = search needs in omega (arith, at4 (c .before .before .before))
@@ -135,25 +87,6 @@ returns c =
 pub refusal-spec : {M : Type 1} → statement M
 refusal-spec =
     tie.close
-    (tie.spec
-    cast-decimal
-    decimal-requires
-    decimal-requires-2
-    slice-aggregate-put
-    slice-aggregate-put-2
-    put-requires
-    slice-aggregate-put-3
-    array-share-prefix-number
-    slice-aggregate-put-4
-    put-requires-2
-    slice-aggregate-put-5
-    slice-aggregate-put-6
-    put-requires-3
-    slice-aggregate-put-7
-    array-share-prefix-place
-    slice-aggregate-put-8
-    put-requires-4
-    slice-aggregate-put-9
-    slice-aggregate-put-10
-    put-requires-5
-    returns)
+    (tie.spec (λ c. search needs) (λ c κs. search needs) (λ c κs. search needs) (λ c. search needs) (λ c. search needs) (λ c κs. search needs)
+    (λ c. search needs) (λ c. search needs) (λ c. search needs) put-requires-2 (λ c. search needs) (λ c. search needs) put-requires-3
+    (λ c. search needs) (λ c. search needs) (λ c. search needs) put-requires-4 (λ c. search needs) (λ c. search needs) put-requires-5 returns)

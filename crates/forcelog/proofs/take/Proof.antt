@@ -4,12 +4,6 @@ use borrow.Author.Needs.{needs}
 use Rattle.forcelog.proofs.take.Statement.{statement}
 use Rattle.forcelog.proofs.take.Tie as tie
 
-read-forcing-requires : tie.Need-read-forcing-requires
-read-forcing-requires c κs = search needs
-
-refused-requires : tie.Need-refused-requires
-refused-requires c κs = search needs
-
 returns : tie.Need-returns
 returns c = let t = c .before .before .before in
     c .refused .ensures ∙ not-read _ _ _ (t .before .read-forcing .ensures) (c .before .if1 .taken)
@@ -22,5 +16,4 @@ returns-2 c = let e = c .before .before in
     c .step .ensures ∙ was-read _ _ _ (e .before .before .before .read-forcing .ensures) (e .if1 .left)
 
 pub take-spec : {M : Type 1} → statement M
-take-spec =
-    tie.close (tie.spec read-forcing-requires refused-requires returns step-requires returns-2)
+take-spec = tie.close (tie.spec (λ c κs. search needs) (λ c κs. search needs) returns step-requires returns-2)

@@ -11,24 +11,6 @@ use Rattle.geometry.proofs.SizeLaws.{kept}
 use Rattle.geometry.proofs.all_near.Statement.{statement}
 use Rattle.geometry.proofs.all_near.Tie as tie
 
-is-near-requires : tie.Need-is-near-requires
-is-near-requires c κs = search needs
-
-is-near-requires-2 : tie.Need-is-near-requires-2
-is-near-requires-2 c κs = search needs
-
-is-near-requires-3 : tie.Need-is-near-requires-3
-is-near-requires-3 c κs = search needs
-
-is-near-requires-4 : tie.Need-is-near-requires-4
-is-near-requires-4 c κs = search needs
-
-is-near-requires-5 : tie.Need-is-near-requires-5
-is-near-requires-5 c κs = search needs
-
-is-near-requires-6 : tie.Need-is-near-requires-6
-is-near-requires-6 c κs = search needs
-
 -- the test of a field that was handed on as bits
 side : (v : ℤ) {b : Bool} → mag v < 2 ^ 63 → b ≡ near (toZ w64 (ofZ w64 v)) → b ≡ near v
 side v ok e = e ∙ ap near (kept {r = v} ok refl)
@@ -52,11 +34,5 @@ returns c =
 pub all-near-spec : {M : Type 1} → statement M
 all-near-spec =
     tie.close
-    (tie.spec
-    is-near-requires
-    is-near-requires-2
-    is-near-requires-3
-    is-near-requires-4
-    is-near-requires-5
-    is-near-requires-6
-    returns)
+    (tie.spec (λ c κs. search needs) (λ c κs. search needs) (λ c κs. search needs) (λ c κs. search needs) (λ c κs. search needs)
+    (λ c κs. search needs) returns)

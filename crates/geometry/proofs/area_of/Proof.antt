@@ -1,4 +1,4 @@
-use mathlib.Core.Path.{_≡_, sym, ap, _∙_}
+use mathlib.Core.Path.{_≡_, ap, _∙_}
 use native.Mathlib.Omega.{arith}
 use lib.IntN.{natAbs}
 use mir.Syntax.{w64}
@@ -9,9 +9,6 @@ use Rattle.geometry.proofs.GeometryLaws.{small-D, count-there, count-no
 use borrow.Author.Needs.{needs}
 use Rattle.geometry.proofs.area_of.Statement.{statement}
 use Rattle.geometry.proofs.area_of.Tie as tie
-
-twice-area-requires : tie.Need-twice-area-requires
-twice-area-requires c κs = search needs
 
 its : (c : tie.After-twice-area) → toZ w64 (ofZ w64 (c .twice-area .result)) ≡ nearD (c .before .args .s)
 its c = kept (c .twice-area .ok) (c .twice-area .ensures)
@@ -26,4 +23,4 @@ returns-2 : tie.Need-returns-2
 returns-2 c = count-none (toZ w64 (ofZ w64 (c .before .twice-area .result))) (c .if1 .left) ∙ ap counted (its (c .before))
 
 pub area-of-spec : {M : Type 1} → statement M
-area-of-spec = tie.close (tie.spec twice-area-requires cast-result returns returns-2)
+area-of-spec = tie.close (tie.spec (λ c κs. search needs) cast-result returns returns-2)

@@ -8,8 +8,5 @@ use Rattle.geometry.proofs.exact.Tie as tie
 int-to-float-result : tie.Need-int-to-float-result
 int-to-float-result c = let h : T (inFloat binary64 (c .before .args .v)) = in-float _ (c .before .pre) in search needs
 
-returns : tie.Need-returns
-returns c = search needs
-
 pub exact-spec : {M : Type 1} → statement M
-exact-spec = tie.close (tie.spec int-to-float-result returns)
+exact-spec = tie.close (tie.spec int-to-float-result (λ c. search needs))

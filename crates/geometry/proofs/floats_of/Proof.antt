@@ -1,4 +1,4 @@
-use mathlib.Core.Path.{_≡_, sym, ap, subst, _∙_}
+use mathlib.Core.Path.{sym, ap, subst, _∙_}
 use lib.IntN.{ℤ}
 use lib.Ieee.{binary64, ofInt}
 use mir.Syntax.{w64}
@@ -18,9 +18,6 @@ held c =
 small : (c : tie.After-sides-of) → SidesSmall (c .sides-of .result)
 small c = subst (λ (s : WholeSides). SidesSmall s) (sym (c .sides-of .ensures)) (sides-small _ (held (c .before)))
 
-sides-of-requires : tie.Need-sides-of-requires
-sides-of-requires c κs = search needs
-
 exact-requires : tie.Need-exact-requires
 exact-requires c κs = small-exact (small (c .before) .a1)
 
@@ -38,9 +35,6 @@ exact-requires-5 c κs = small-exact (small (c .before .before .before .before .
 
 exact-requires-6 : tie.Need-exact-requires-6
 exact-requires-6 c κs = small-exact (small (c .before .before .before .before .before .before .before .before .before .before .before) .b3)
-
-twice-area-requires : tie.Need-twice-area-requires
-twice-area-requires c κs = search needs
 
 exact-requires-7 : tie.Need-exact-requires-7
 exact-requires-7 c κs = rw (c .twice-area .ensures) (small-exact (small-D _))
@@ -70,14 +64,5 @@ returns c =
 pub floats-of-spec : {M : Type 1} → statement M
 floats-of-spec =
     tie.close
-    (tie.spec
-    sides-of-requires
-    exact-requires
-    exact-requires-2
-    exact-requires-3
-    exact-requires-4
-    exact-requires-5
-    exact-requires-6
-    twice-area-requires
-    exact-requires-7
-    returns)
+    (tie.spec (λ c κs. search needs) exact-requires exact-requires-2 exact-requires-3 exact-requires-4 exact-requires-5 exact-requires-6
+    (λ c κs. search needs) exact-requires-7 returns)

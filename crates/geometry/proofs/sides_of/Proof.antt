@@ -4,24 +4,6 @@ use Rattle.geometry.proofs.SizeLaws.{gap-kept}
 use Rattle.geometry.proofs.sides_of.Statement.{statement}
 use Rattle.geometry.proofs.sides_of.Tie as tie
 
-gap-requires : tie.Need-gap-requires
-gap-requires c κs = search needs
-
-gap-requires-2 : tie.Need-gap-requires-2
-gap-requires-2 c κs = search needs
-
-gap-requires-3 : tie.Need-gap-requires-3
-gap-requires-3 c κs = search needs
-
-gap-requires-4 : tie.Need-gap-requires-4
-gap-requires-4 c κs = search needs
-
-gap-requires-5 : tie.Need-gap-requires-5
-gap-requires-5 c κs = search needs
-
-gap-requires-6 : tie.Need-gap-requires-6
-gap-requires-6 c κs = search needs
-
 returns : tie.Need-returns
 unfolding sidesAt
 returns c =
@@ -44,11 +26,5 @@ returns c =
 pub sides-of-spec : {M : Type 1} → statement M
 sides-of-spec =
     tie.close
-    (tie.spec
-    gap-requires
-    gap-requires-2
-    gap-requires-3
-    gap-requires-4
-    gap-requires-5
-    gap-requires-6
-    returns)
+    (tie.spec (λ c κs. search needs) (λ c κs. search needs) (λ c κs. search needs) (λ c κs. search needs) (λ c κs. search needs)
+    (λ c κs. search needs) returns)

@@ -5,7 +5,7 @@ use mir.Syntax.{w64}
 use mir.Val.{SFits}
 use borrow.Author.Needs.{needs}
 use Rattle.geometry.specs.declared.WholeSides.{WholeSides}
-use Rattle.geometry.specs.Geometry.{allNear, D, nearD}
+use Rattle.geometry.specs.Geometry.{allNear, D}
 use Rattle.geometry.proofs.GeometryLaws.{all-small, small-holds, near-D, far-D}
 use Rattle.geometry.proofs.twice_area.Statement.{statement}
 use Rattle.geometry.proofs.twice_area.Tie as tie
@@ -33,9 +33,6 @@ fit s e =
       d = small-holds (n .d);
     }
 
-all-near-requires : tie.Need-all-near-requires
-all-near-requires c κs = search needs
-
 tested : (c : tie.Then1) → allNear (c .before .before .args .s) ≡ true
 tested c = sym (c .before .all-near .ensures) ∙ c .if1 .taken
 
@@ -55,5 +52,4 @@ returns-2 : tie.Need-returns-2
 returns-2 c = sym (far-D _ (sym (c .before .all-near .ensures) ∙ c .if1 .left))
 
 pub twice-area-spec : {M : Type 1} → statement M
-twice-area-spec =
-    tie.close (tie.spec all-near-requires mul-result mul-result-2 sub-result returns returns-2)
+twice-area-spec = tie.close (tie.spec (λ c κs. search needs) mul-result mul-result-2 sub-result returns returns-2)

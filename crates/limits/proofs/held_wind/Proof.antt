@@ -5,18 +5,9 @@ use borrow.Author.Needs.{needs}
 use Rattle.limits.proofs.held_wind.Statement.{statement}
 use Rattle.limits.proofs.held_wind.Tie as tie
 
-in-range-requires : tie.Need-in-range-requires
-in-range-requires c κs = search needs
-
-in-range-requires-2 : tie.Need-in-range-requires-2
-in-range-requires-2 c κs = search needs
-
-tested-requires : tie.Need-tested-requires
-tested-requires c κs = search needs
-
 returns : tie.Need-returns
 unfolding row12Held decimal minus round ofBits neg
 returns c = rw (c .tested .ensures, c .before .in-range2 .ensures, c .before .before .in-range .ensures)
 
 pub held-wind-spec : {M : Type 1} → statement M
-held-wind-spec = tie.close (tie.spec in-range-requires in-range-requires-2 tested-requires returns)
+held-wind-spec = tie.close (tie.spec (λ c κs. search needs) (λ c κs. search needs) (λ c κs. search needs) returns)

@@ -5,18 +5,6 @@ use borrow.Author.Needs.{needs}
 use Rattle.limits.proofs.in_bounds.Statement.{statement}
 use Rattle.limits.proofs.in_bounds.Tie as tie
 
-in-range-requires : tie.Need-in-range-requires
-in-range-requires c κs = search needs
-
-in-range-requires-2 : tie.Need-in-range-requires-2
-in-range-requires-2 c κs = search needs
-
-in-range-requires-3 : tie.Need-in-range-requires-3
-in-range-requires-3 c κs = search needs
-
-in-range-requires-4 : tie.Need-in-range-requires-4
-in-range-requires-4 c κs = search needs
-
 returns : tie.Need-returns
 unfolding inBounds decimal minus round ofBits neg
 returns c =
@@ -28,11 +16,4 @@ returns c =
     )
 
 pub in-bounds-spec : {M : Type 1} → statement M
-in-bounds-spec =
-    tie.close
-    (tie.spec
-    in-range-requires
-    in-range-requires-2
-    in-range-requires-3
-    in-range-requires-4
-    returns)
+in-bounds-spec = tie.close (tie.spec (λ c κs. search needs) (λ c κs. search needs) (λ c κs. search needs) (λ c κs. search needs) returns)

@@ -5,12 +5,9 @@ use borrow.Author.Needs.{needs}
 use Rattle.limits.proofs.is_sound.Statement.{statement}
 use Rattle.limits.proofs.is_sound.Tie as tie
 
-in-range-requires : tie.Need-in-range-requires
-in-range-requires c κs = search needs
-
 returns : tie.Need-returns
 unfolding isSound decimal round ofBits
 returns c = rw (c .in-range .ensures)
 
 pub is-sound-spec : {M : Type 1} → statement M
-is-sound-spec = tie.close (tie.spec in-range-requires returns)
+is-sound-spec = tie.close (tie.spec (λ c κs. search needs) returns)

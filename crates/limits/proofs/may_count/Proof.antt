@@ -3,12 +3,9 @@ use borrow.Author.Needs.{needs}
 use Rattle.limits.proofs.may_count.Statement.{statement}
 use Rattle.limits.proofs.may_count.Tie as tie
 
-tested-requires : tie.Need-tested-requires
-tested-requires c κs = search needs
-
 returns : tie.Need-returns
 unfolding row11
 returns c = c .tested .ensures
 
 pub may-count-spec : {M : Type 1} → statement M
-may-count-spec = tie.close (tie.spec tested-requires returns)
+may-count-spec = tie.close (tie.spec (λ c κs. search needs) returns)

@@ -5,39 +5,6 @@ use borrow.Author.Needs.{needs}
 use Rattle.limits.proofs.parameters.Statement.{statement}
 use Rattle.limits.proofs.parameters.Tie as tie
 
-in-range-requires : tie.Need-in-range-requires
-in-range-requires c κs = search needs
-
-tested-requires : tie.Need-tested-requires
-tested-requires c κs = search needs
-
-in-range-requires-2 : tie.Need-in-range-requires-2
-in-range-requires-2 c κs = search needs
-
-tested-requires-2 : tie.Need-tested-requires-2
-tested-requires-2 c κs = search needs
-
-in-range-requires-3 : tie.Need-in-range-requires-3
-in-range-requires-3 c κs = search needs
-
-tested-requires-3 : tie.Need-tested-requires-3
-tested-requires-3 c κs = search needs
-
-in-range-requires-4 : tie.Need-in-range-requires-4
-in-range-requires-4 c κs = search needs
-
-tested-requires-4 : tie.Need-tested-requires-4
-tested-requires-4 c κs = search needs
-
-first-requires : tie.Need-first-requires
-first-requires c κs = search needs
-
-first-requires-2 : tie.Need-first-requires-2
-first-requires-2 c κs = search needs
-
-first-requires-3 : tie.Need-first-requires-3
-first-requires-3 c κs = search needs
-
 returns : tie.Need-returns
 unfolding row9 decimal minus round ofBits neg
 returns c =
@@ -62,16 +29,5 @@ returns c =
 pub parameters-spec : {M : Type 1} → statement M
 parameters-spec =
     tie.close
-    (tie.spec
-    in-range-requires
-    tested-requires
-    in-range-requires-2
-    tested-requires-2
-    in-range-requires-3
-    tested-requires-3
-    in-range-requires-4
-    tested-requires-4
-    first-requires
-    first-requires-2
-    first-requires-3
-    returns)
+    (tie.spec (λ c κs. search needs) (λ c κs. search needs) (λ c κs. search needs) (λ c κs. search needs) (λ c κs. search needs)
+    (λ c κs. search needs) (λ c κs. search needs) (λ c κs. search needs) (λ c κs. search needs) (λ c κs. search needs) (λ c κs. search needs) returns)

@@ -54,9 +54,6 @@ depths-here c =
 depths-fine : (c : tie.Else5) → let m = net (start (after-lent (after-shapes (after-legs (after-named c))))) in scan (row8 (m .h) (m .kind)) (N m) .number ≡ 0
 depths-fine c = same-number (depths-here (c .before .before)) (c .if5 .left)
 
-sizes-requires : tie.Need-sizes-requires
-sizes-requires c κs = search needs
-
 returns : tie.Need-returns
 returns c = stops _ (c .before .before .sizes .ensures) (c .if1 .taken) ∙ lent-first _ _ (net (c .before .before .before .before .before .before)) _
 
@@ -67,9 +64,6 @@ returns-2 : tie.Need-returns-2
 returns-2 c =
     let l = c .before .before .before in
     goes _ (lent-fine l) (stops _ (c .before .before .shapes .ensures) (c .if2 .taken)) ∙ lent-first _ _ (net (start l)) _
-
-legs-if-requires : tie.Need-legs-if-requires
-legs-if-requires c κs = search needs
 
 returns-3 : tie.Need-returns-3
 returns-3 c =
@@ -105,9 +99,6 @@ returns-5 c =
     goes _ (lent-fine l) (goes _ (shapes-fine e) (goes _ (legs-fine g) (goes _ (named-fine d) (stops _ (depths-here (c .before .before)) (c .if5 .taken)))))
     ∙ lent-first _ _ (net (start l)) _
 
-parameters-requires : tie.Need-parameters-requires
-parameters-requires c κs = search needs
-
 returns-6 : tie.Need-returns-6
 returns-6 c =
     let f = c .before in
@@ -121,16 +112,5 @@ returns-6 c =
 pub check-spec : {M : Type 1} → statement M
 check-spec =
     tie.close
-    (tie.spec
-    sizes-requires
-    returns
-    shapes-requires
-    returns-2
-    legs-if-requires
-    returns-3
-    named-requires
-    returns-4
-    depths-requires
-    returns-5
-    parameters-requires
-    returns-6)
+    (tie.spec (λ c κs. search needs) returns shapes-requires returns-2 (λ c κs. search needs) returns-3 named-requires returns-4 depths-requires
+    returns-5 (λ c κs. search needs) returns-6)

@@ -15,18 +15,6 @@ use Rattle.passes.proofs.advance.Tie as tie
 abbrev its : tie.Start → Solving
 its s = let a = s .args in solving (sea (a .p) (a .w) (a .x .now) (a .y .now) (a .tri .now) (a .h .now) (a .state .now)) (a .kind .now) (a .f)
 
-solve-requires : tie.Need-solve-requires
-solve-requires c κs = search needs
-
-publish-requires : tie.Need-publish-requires
-publish-requires c κs = search needs
-
-clear-requires : tie.Need-clear-requires
-clear-requires c κs = search needs
-
-clear-whole-requires : tie.Need-clear-whole-requires
-clear-whole-requires c κs = search needs
-
 returns : tie.Need-returns
 returns c =
     let j = c .before .before .before .before .before .before .before .before in
@@ -51,21 +39,8 @@ same-length c =
     let j = c .before .before .before .before .before .before .before .before in
     ⊎-elim (λ w. ap length (w .6) ∙ w .3 .kept .0) (λ w. ap length (w .1)) (j .if1 .came)
 
-same-length-2 : tie.Need-same-length-2
-same-length-2 c = search needs
-
-same-length-3 : tie.Need-same-length-3
-same-length-3 c = search needs
-
 pub advance-spec : {M : Type 1} → statement M
 advance-spec =
     tie.close
-    (tie.spec
-    solve-requires
-    publish-requires
-    clear-requires
-    clear-whole-requires
-    same-length
-    same-length-2
-    same-length-3
-    returns)
+    (tie.spec (λ c κs. search needs) (λ c κs. search needs) (λ c κs. search needs) (λ c κs. search needs) same-length (λ c. search needs)
+    (λ c. search needs) returns)

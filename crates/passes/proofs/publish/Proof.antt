@@ -9,54 +9,6 @@ use borrow.Author.Needs.{needs}
 use Rattle.passes.proofs.publish.Statement.{statement}
 use Rattle.passes.proofs.publish.Tie as tie
 
-mul-second : tie.Need-mul-second
-mul-second c = search needs
-
-mul-end : tie.Need-mul-end
-mul-end c = search needs
-
-sub-copy : tie.Need-sub-copy
-sub-copy c = search needs
-
-part-copy-start : tie.Need-part-copy-start
-part-copy-start c = search needs
-
-part-copy-end : tie.Need-part-copy-end
-part-copy-end c = search needs
-
-mul-copy : tie.Need-mul-copy
-mul-copy c = search needs
-
-sub-copy-2 : tie.Need-sub-copy-2
-sub-copy-2 c = search needs
-
-part-copy-start-2 : tie.Need-part-copy-start-2
-part-copy-start-2 c = search needs
-
-part-copy-end-2 : tie.Need-part-copy-end-2
-part-copy-end-2 c = search needs
-
-copy-requires : tie.Need-copy-requires
-copy-requires c κs = search needs
-
-mul-copy-2 : tie.Need-mul-copy-2
-mul-copy-2 c = search needs
-
-sub-copy-3 : tie.Need-sub-copy-3
-sub-copy-3 c = search needs
-
-part-copy-start-3 : tie.Need-part-copy-start-3
-part-copy-start-3 c = search needs
-
-part-copy-end-3 : tie.Need-part-copy-end-3
-part-copy-end-3 c = search needs
-
-copy-requires-2 : tie.Need-copy-requires-2
-copy-requires-2 c κs = search needs
-
-same-length : tie.Need-same-length
-same-length c = search needs
-
 returns : tie.Need-returns
 returns c =
     let second = c .before .before in
@@ -76,21 +28,6 @@ returns c =
 pub publish-spec : {M : Type 1} → statement M
 publish-spec =
     tie.close
-    (tie.spec
-    mul-second
-    mul-end
-    sub-copy
-    part-copy-start
-    part-copy-end
-    mul-copy
-    sub-copy-2
-    part-copy-start-2
-    part-copy-end-2
-    copy-requires
-    mul-copy-2
-    sub-copy-3
-    part-copy-start-3
-    part-copy-end-3
-    copy-requires-2
-    same-length
-    returns)
+    (tie.spec (λ c. search needs) (λ c. search needs) (λ c. search needs) (λ c. search needs) (λ c. search needs) (λ c. search needs)
+    (λ c. search needs) (λ c. search needs) (λ c. search needs) (λ c κs. search needs) (λ c. search needs) (λ c. search needs) (λ c. search needs)
+    (λ c. search needs) (λ c κs. search needs) (λ c. search needs) returns)

@@ -30,21 +30,6 @@ answered c =
 passed : (c : tie.Else1) → let s = start (c .before .before) in let a = s .args in laws.before (net s) (a .p) (a .state .now) (a .w) (a .f) (a .also) (lent s) .number ≡ 0
 passed c = same-number (answered (c .before .before)) (c .if1 .left)
 
-is-runs-requires : tie.Need-is-runs-requires
-is-runs-requires c κs = search needs
-
-is-runs-requires-2 : tie.Need-is-runs-requires-2
-is-runs-requires-2 c κs = search needs
-
-is-runs-requires-3 : tie.Need-is-runs-requires-3
-is-runs-requires-3 c κs = search needs
-
-rows-to-10-requires : tie.Need-rows-to-10-requires
-rows-to-10-requires c κs = search needs
-
-first-requires : tie.Need-first-requires
-first-requires c κs = search needs
-
 returns : tie.Need-returns
 returns c =
     let k = c .before .before in
@@ -66,15 +51,6 @@ advance-requires c κs =
       ),
     )
 
-same-length : tie.Need-same-length
-same-length c = search needs
-
-same-length-2 : tie.Need-same-length-2
-same-length-2 c = search needs
-
-same-length-3 : tie.Need-same-length-3
-same-length-3 c = search needs
-
 returns-2 : tie.Need-returns-2
 returns-2 c =
     let v = c .before .before .before .before .before .before in
@@ -87,15 +63,5 @@ returns-2 c =
 pub settle-spec : {M : Type 1} → statement M
 settle-spec =
     tie.close
-    (tie.spec
-    is-runs-requires
-    is-runs-requires-2
-    is-runs-requires-3
-    rows-to-10-requires
-    first-requires
-    returns
-    advance-requires
-    same-length
-    same-length-2
-    same-length-3
-    returns-2)
+    (tie.spec (λ c κs. search needs) (λ c κs. search needs) (λ c κs. search needs) (λ c κs. search needs) (λ c κs. search needs) returns
+    advance-requires (λ c. search needs) (λ c. search needs) (λ c. search needs) returns-2)

@@ -4,15 +4,6 @@ use borrow.Author.Needs.{needs}
 use Rattle.passes.proofs.solve.Statement.{statement}
 use Rattle.passes.proofs.solve.Tie as tie
 
-levels-requires : tie.Need-levels-requires
-levels-requires c κs = search needs
-
-same-length : tie.Need-same-length
-same-length c = search needs
-
-same-length-2 : tie.Need-same-length-2
-same-length-2 c = search needs
-
 returns : tie.Need-returns
 unfolding row13
 returns c = let l = c .before .before .before .before .before .before in (stops _ (l .levels .ensures .0) (c .if1 .taken), λ z. absurd (c .if1 .taken z))
@@ -21,12 +12,6 @@ velocities-requires : tie.Need-velocities-requires
 velocities-requires c κs =
     let l = c .before .before .before .before .before .before .before .before in
     (l .before .before .before .before .before .before .before .before .before .pre .0, (l .levels .ensures .1 .1, l .levels .ensures .1 .0))
-
-same-length-3 : tie.Need-same-length-3
-same-length-3 c = search needs
-
-same-length-4 : tie.Need-same-length-4
-same-length-4 c = search needs
 
 returns-2 : tie.Need-returns-2
 unfolding row13
@@ -39,12 +24,5 @@ returns-2 c =
 pub solve-spec : {M : Type 1} → statement M
 solve-spec =
     tie.close
-    (tie.spec
-    levels-requires
-    same-length
-    same-length-2
-    returns
-    velocities-requires
-    same-length-3
-    same-length-4
+    (tie.spec (λ c κs. search needs) (λ c. search needs) (λ c. search needs) returns velocities-requires (λ c. search needs) (λ c. search needs)
     returns-2)

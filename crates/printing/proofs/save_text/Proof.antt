@@ -5,14 +5,8 @@ use borrow.Author.Needs.{needs}
 use Rattle.printing.proofs.save_text.Statement.{statement}
 use Rattle.printing.proofs.save_text.Tie as tie
 
-slice-aggregate-end : tie.Need-slice-aggregate-end
-slice-aggregate-end c = search needs
-
-end-requires : tie.Need-end-requires
-end-requires c κs = search needs
-
 returns : tie.Need-returns
 returns c = ap (λ (o : SaveOut). o .text) (c .before .end .ensures ∙ end-kept _ (c .before .before .before .pre) _ refl)
 
 pub save-text-spec : {M : Type 1} → statement M
-save-text-spec = tie.close (tie.spec slice-aggregate-end end-requires returns)
+save-text-spec = tie.close (tie.spec (λ c. search needs) (λ c κs. search needs) returns)

@@ -22,12 +22,6 @@ checked c = c .check .ensures ∙ ap (λ (rooms : Bool). rows1to9 rooms false (n
 passed : (c : tie.Else1) → let s = start (c .before .before) in rows1to9 (isRuns (length (s .args .state .now)) 4 (N (net s))) false (net s) (s .args .p) .number ≡ 0
 passed c = same-number (checked (c .before .before)) (c .if1 .left)
 
-is-runs-requires : tie.Need-is-runs-requires
-is-runs-requires c κs = search needs
-
-check-requires : tie.Need-check-requires
-check-requires c κs = search needs
-
 returns : tie.Need-returns
 returns c =
     let k = c .before .before in
@@ -57,9 +51,6 @@ clock-of-requires c κs =
     let s = start (e .before .before) in
     few (net s) (s .args .p) (s .args .text .now) (s .args .state .now) (s .args .clock) (passed e)
 
-same-length : tie.Need-same-length
-same-length c = search needs
-
 returns-3 : tie.Need-returns-3
 returns-3 c =
     let w = c .before .before .before in
@@ -71,13 +62,5 @@ returns-3 c =
 pub load-spec : {M : Type 1} → statement M
 load-spec =
     tie.close
-    (tie.spec
-    is-runs-requires
-    check-requires
-    returns
-    text-rows-requires
-    returns-2
-    fill-requires
-    clock-of-requires
-    same-length
+    (tie.spec (λ c κs. search needs) (λ c κs. search needs) returns text-rows-requires returns-2 fill-requires clock-of-requires (λ c. search needs)
     returns-3)

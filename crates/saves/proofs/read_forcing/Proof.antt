@@ -5,21 +5,9 @@ use borrow.Author.Needs.{needs}
 use Rattle.saves.proofs.read_forcing.Statement.{statement}
 use Rattle.saves.proofs.read_forcing.Tie as tie
 
-fault-requires : tie.Need-fault-requires
-fault-requires c κs = search needs
-
 returns : tie.Need-returns
 unfolding ofBits
 returns c = taken-refused _ _ _ (c .before .before .fault .ensures) (c .if1 .taken)
-
-float-at-requires : tie.Need-float-at-requires
-float-at-requires c κs = search needs
-
-float-at-requires-2 : tie.Need-float-at-requires-2
-float-at-requires-2 c κs = search needs
-
-float-at-requires-3 : tie.Need-float-at-requires-3
-float-at-requires-3 c κs = search needs
 
 returns-2 : tie.Need-returns-2
 unfolding forcingOf
@@ -29,12 +17,4 @@ returns-2 c =
     (λ i. record { elevation = c .before .before .float-at .ensures i; wx = c .before .float-at2 .ensures i; wy = c .float-at3 .ensures i })
 
 pub read-forcing-spec : {M : Type 1} → statement M
-read-forcing-spec =
-    tie.close
-    (tie.spec
-    fault-requires
-    returns
-    float-at-requires
-    float-at-requires-2
-    float-at-requires-3
-    returns-2)
+read-forcing-spec = tie.close (tie.spec (λ c κs. search needs) returns (λ c κs. search needs) (λ c κs. search needs) (λ c κs. search needs) returns-2)

@@ -30,9 +30,6 @@ rest : (c : tie.After-first) → let s = start (c .before .before .before .befor
 unfolding row24
 rest c = c .first .ensures ∙ (λ i. c .before .held-wind .ensures i then c .before .before .tested .ensures i)
 
-rows-to-10-requires : tie.Need-rows-to-10-requires
-rows-to-10-requires c κs = search needs
-
 returns : tie.Need-returns
 returns c =
     let k = c .before .before in
@@ -43,15 +40,6 @@ mul-room c = omega (arith, accepted-run _ _ _ _ (passed c) .mesh .sized .most-no
 
 add-room : tie.Need-add-room
 add-room c = omega (arith, accepted-run _ _ _ _ (passed c) .mesh .sized .most-nodes)
-
-tested-requires : tie.Need-tested-requires
-tested-requires c κs = search needs
-
-held-wind-requires : tie.Need-held-wind-requires
-held-wind-requires c κs = search needs
-
-first-requires : tie.Need-first-requires
-first-requires c κs = search needs
 
 returns-2 : tie.Need-returns-2
 returns-2 c =
@@ -66,9 +54,6 @@ write-requires c κs =
     let run = accepted-run _ _ _ _ ok in
     (run .mesh .sized .most-nodes, run .long, roomy _ _ _ (start (e .before .before) .args .clock) _ ok _ (rest f) (c .before .if2 .left))
 
-same-length : tie.Need-same-length
-same-length c = search needs
-
 returns-3 : tie.Need-returns-3
 unfolding ofBits
 returns-3 c =
@@ -80,15 +65,5 @@ returns-3 c =
 pub save-spec : {M : Type 1} → statement M
 save-spec =
     tie.close
-    (tie.spec
-    rows-to-10-requires
-    returns
-    mul-room
-    add-room
-    tested-requires
-    held-wind-requires
-    first-requires
-    returns-2
-    write-requires
-    same-length
-    returns-3)
+    (tie.spec (λ c κs. search needs) returns mul-room add-room (λ c κs. search needs) (λ c κs. search needs) (λ c κs. search needs) returns-2
+    write-requires (λ c. search needs) returns-3)

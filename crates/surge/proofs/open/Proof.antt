@@ -22,18 +22,6 @@ answered c =
     let m = mesh (a .x .now) (a .y .now) (a .tri .now) (a .h .now) (a .kind .now) in
     c .check .ensures ∙ ap (λ (rooms : Bool). rows1to9 rooms true m (a .p)) (c .before .is-runs .ensures)
 
-is-runs-requires : tie.Need-is-runs-requires
-is-runs-requires c κs = search needs
-
-check-requires : tie.Need-check-requires
-check-requires c κs = search needs
-
-clear-requires : tie.Need-clear-requires
-clear-requires c κs = search needs
-
-cold-requires : tie.Need-cold-requires
-cold-requires c κs = search needs
-
 same-length : tie.Need-same-length
 same-length c =
     ⊎-elim
@@ -49,6 +37,4 @@ returns c =
     (c .before .if1 .came)
 
 pub open-spec : {M : Type 1} → statement M
-open-spec =
-    tie.close
-    (tie.spec is-runs-requires check-requires clear-requires cold-requires same-length returns)
+open-spec = tie.close (tie.spec (λ c κs. search needs) (λ c κs. search needs) (λ c κs. search needs) (λ c κs. search needs) same-length returns)

@@ -24,24 +24,6 @@ answered c =
     let k = c .before in
     c .settle .ensures ∙ (λ i. settleOf (g .mesh) (g .p) (g .state) (k .wind .ensures i) (g .forcing) (k .before .before .before .before .others .ensures i) (lent s))
 
-others-requires : tie.Need-others-requires
-others-requires c κs = search needs
-
-wind-requires : tie.Need-wind-requires
-wind-requires c κs = search needs
-
-settle-requires : tie.Need-settle-requires
-settle-requires c κs = search needs
-
-same-length : tie.Need-same-length
-same-length c = search needs
-
-same-length-2 : tie.Need-same-length-2
-same-length-2 c = search needs
-
-same-length-3 : tie.Need-same-length-3
-same-length-3 c = search needs
-
 returns : tie.Need-returns
 returns c =
     let k = c .before .before .before .before .before .before .before .before in
@@ -53,15 +35,6 @@ advanced-requires c κs =
     let s = start k in
     omega (arith, not-last (its s) (lent s) (passed (its s) (lent s) _ (answered k) (c .if1 .left)), s .good)
 
-same-length-4 : tie.Need-same-length-4
-same-length-4 c = search needs
-
-same-length-5 : tie.Need-same-length-5
-same-length-5 c = search needs
-
-same-length-6 : tie.Need-same-length-6
-same-length-6 c = search needs
-
 returns-2 : tie.Need-returns-2
 returns-2 c =
     let e = c .before in
@@ -71,16 +44,5 @@ returns-2 c =
 pub step-spec : {M : Type 1} → statement M
 step-spec =
     tie.close
-    (tie.spec
-    others-requires
-    wind-requires
-    settle-requires
-    same-length
-    same-length-2
-    same-length-3
-    returns
-    advanced-requires
-    same-length-4
-    same-length-5
-    same-length-6
-    returns-2)
+    (tie.spec (λ c κs. search needs) (λ c κs. search needs) (λ c κs. search needs) (λ c. search needs) (λ c. search needs) (λ c. search needs) returns
+    advanced-requires (λ c. search needs) (λ c. search needs) (λ c. search needs) returns-2)

@@ -21,39 +21,6 @@ abbrev μ-loop : tie.MeasureT-loop
 loop-holds : tie.Need-loop-holds Inv-loop μ-loop
 loop-holds c = (omega arith, ap (λ x. x % 256) (omega arith), refl)
 
-mul-worth : tie.Need-mul-worth Inv-loop μ-loop
-mul-worth c = omega arith
-
-shared-slice-read-worth : tie.Need-shared-slice-read-worth Inv-loop μ-loop
-shared-slice-read-worth c = omega arith
-
-worth-requires : tie.Need-worth-requires Inv-loop μ-loop
-worth-requires c κs = search needs
-
-mul-worth-2 : tie.Need-mul-worth-2 Inv-loop μ-loop
-mul-worth-2 c = omega arith
-
-add-worth : tie.Need-add-worth Inv-loop μ-loop
-add-worth c = omega arith
-
-shared-slice-read-worth-2 : tie.Need-shared-slice-read-worth-2 Inv-loop μ-loop
-shared-slice-read-worth-2 c = omega arith
-
-worth-requires-2 : tie.Need-worth-requires-2 Inv-loop μ-loop
-worth-requires-2 c κs = search needs
-
-byte-requires : tie.Need-byte-requires Inv-loop μ-loop
-byte-requires c κs = search needs
-
-add-sum : tie.Need-add-sum Inv-loop μ-loop
-add-sum c = omega arith
-
-add-k : tie.Need-add-k Inv-loop μ-loop
-add-k c = omega arith
-
-loop-less : tie.Need-loop-less Inv-loop μ-loop
-loop-less c = omega arith
-
 loop-again : tie.Need-loop-again Inv-loop μ-loop
 unfolding byte
 loop-again c =
@@ -81,20 +48,5 @@ returns c =
 pub tallied-spec : {M : Type 1} → statement M
 tallied-spec =
     tie.close
-    (tie.spec
-    Inv-loop
-    μ-loop
-    loop-holds
-    mul-worth
-    shared-slice-read-worth
-    worth-requires
-    mul-worth-2
-    add-worth
-    shared-slice-read-worth-2
-    worth-requires-2
-    byte-requires
-    add-sum
-    add-k
-    loop-less
-    loop-again
-    returns)
+    (tie.spec Inv-loop μ-loop loop-holds (λ c. omega arith) (λ c. omega arith) (λ c κs. search needs) (λ c. omega arith) (λ c. omega arith)
+    (λ c. omega arith) (λ c κs. search needs) (λ c κs. search needs) (λ c. omega arith) (λ c. omega arith) (λ c. omega arith) loop-again returns)

@@ -39,9 +39,6 @@ returns c =
     let j = c .before in
     sym (put-not (j .before .args .text .now) (j .before .args .at) (j .before .args .t3) (j .if1 .n) (some j .0) (some j .1) (omega arith))
 
-sub-if3 : tie.Need-sub-if3 Inv-loop μ-loop
-sub-if3 c = omega arith
-
 returns-2 : tie.Need-returns-2 Inv-loop μ-loop
 returns-2 c =
     let j = c .before .before .before in
@@ -53,17 +50,8 @@ loop-holds c = let a = c .before .before .before .before .args in (omega arith, 
 element-copy-out-text : tie.Need-element-copy-out-text Inv-loop μ-loop
 element-copy-out-text c = omega (arith, some (c .before .before .before .before .before) .2)
 
-add-text : tie.Need-add-text Inv-loop μ-loop
-add-text c = omega arith
-
 slice-write-text : tie.Need-slice-write-text Inv-loop μ-loop
 slice-write-text c = omega (arith, long (c .before .before))
-
-add-k : tie.Need-add-k Inv-loop μ-loop
-add-k c = omega arith
-
-loop-less : tie.Need-loop-less Inv-loop μ-loop
-loop-less c = omega arith
 
 loop-again : tie.Need-loop-again Inv-loop μ-loop
 loop-again c =
@@ -71,9 +59,6 @@ loop-again c =
     let j = p .before .before .before .before in
     let a = j .before .args in
     (omega arith, rw (p .loop .inv .1, add-one) (paste-suc (a .text .now) (a .at) (a .t3 .bytes) (p .loop .k) 0 (omega arith) (omega (arith, some j .1))))
-
-add-result : tie.Need-add-result Inv-loop μ-loop
-add-result c = omega arith
 
 same-length : tie.Need-same-length Inv-loop μ-loop
 same-length c = long (c .before)
@@ -89,19 +74,5 @@ returns-3 c =
 pub put-spec : {M : Type 1} → statement M
 put-spec =
     tie.close
-    (tie.spec
-    Inv-loop
-    μ-loop
-    returns
-    sub-if3
-    returns-2
-    loop-holds
-    element-copy-out-text
-    add-text
-    slice-write-text
-    add-k
-    loop-less
-    loop-again
-    add-result
-    same-length
-    returns-3)
+    (tie.spec Inv-loop μ-loop returns (λ c. omega arith) returns-2 loop-holds element-copy-out-text (λ c. omega arith) slice-write-text
+    (λ c. omega arith) (λ c. omega arith) loop-again (λ c. omega arith) same-length returns-3)

@@ -12,8 +12,5 @@ float-from-bits-result : tie.Need-float-from-bits-result
 float-from-bits-result c =
     ⊎-elim (λ w. no-nan-fraction (c .before .args .p) (w .0 .taken) (w .1 .left)) (λ w. no-nan-exponent (c .before .args .p) (w .left)) (c .if1 .came)
 
-returns-2 : tie.Need-returns-2
-returns-2 c = search needs
-
 pub float-of-spec : {M : Type 1} → statement M
-float-of-spec = tie.close (tie.spec returns float-from-bits-result returns-2)
+float-of-spec = tie.close (tie.spec returns float-from-bits-result (λ c. search needs))

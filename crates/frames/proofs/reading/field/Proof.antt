@@ -21,23 +21,8 @@ loop-holds c = (omega arith, omega arith, refl)
 mul-v : tie.Need-mul-v Inv-loop μ-loop
 mul-v c = let p = c .before in omega (arith, number-room (p .loop .v) (p .loop .k) (p .loop .inv .1) (omega arith))
 
-add-wide : tie.Need-add-wide Inv-loop μ-loop
-add-wide c = omega arith
-
-array-read-wide : tie.Need-array-read-wide Inv-loop μ-loop
-array-read-wide c = omega arith
-
-wide-requires : tie.Need-wide-requires Inv-loop μ-loop
-wide-requires c κs = search needs
-
 add-v : tie.Need-add-v Inv-loop μ-loop
 add-v c = let p = c .before .before in omega (arith, number-room (p .loop .v) (p .loop .k) (p .loop .inv .1) (omega arith))
-
-add-k : tie.Need-add-k Inv-loop μ-loop
-add-k c = omega arith
-
-loop-less : tie.Need-loop-less Inv-loop μ-loop
-loop-less c = omega arith
 
 loop-again : tie.Need-loop-again Inv-loop μ-loop
 loop-again c =
@@ -56,16 +41,5 @@ returns c =
 pub field-spec : {M : Type 1} → statement M
 field-spec =
     tie.close
-    (tie.spec
-    Inv-loop
-    μ-loop
-    loop-holds
-    mul-v
-    add-wide
-    array-read-wide
-    wide-requires
-    add-v
-    add-k
-    loop-less
-    loop-again
-    returns)
+    (tie.spec Inv-loop μ-loop loop-holds mul-v (λ c. omega arith) (λ c. omega arith) (λ c κs. search needs) add-v (λ c. omega arith)
+    (λ c. omega arith) loop-again returns)

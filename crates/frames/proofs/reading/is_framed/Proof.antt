@@ -12,15 +12,9 @@ returns : tie.Need-returns
 unfolding isFramed
 returns c = rw (ne-eqb (length (c .before .args .line .now)) (c .before .args .due + 1) (λ e. omega arith))
 
-add-result : tie.Need-add-result
-add-result c = search needs
-
-shared-slice-read-result : tie.Need-shared-slice-read-result
-shared-slice-read-result c = search needs
-
 returns-2 : tie.Need-returns-2
 unfolding isFramed
 returns-2 c = refl
 
 pub is-framed-spec : {M : Type 1} → statement M
-is-framed-spec = tie.close (tie.spec returns add-result shared-slice-read-result returns-2)
+is-framed-spec = tie.close (tie.spec returns (λ c. search needs) (λ c. search needs) returns-2)

@@ -59,9 +59,6 @@ add-v c =
 add-k : tie.Need-add-k Inv-loop μ-loop
 add-k c = omega (arith, within (c .before .before .before))
 
-loop-less : tie.Need-loop-less Inv-loop μ-loop
-loop-less c = omega arith
-
 loop-again : tie.Need-loop-again Inv-loop μ-loop
 loop-again c =
     let p = c .before .before in
@@ -84,17 +81,4 @@ returns-3 c =
 pub value-spec : {M : Type 1} → statement M
 value-spec =
     tie.close
-    (tie.spec
-    Inv-loop
-    μ-loop
-    returns
-    returns-2
-    loop-holds
-    mul-v
-    add-byte-at
-    byte-at-requires
-    add-v
-    add-k
-    loop-less
-    loop-again
-    returns-3)
+    (tie.spec Inv-loop μ-loop returns returns-2 loop-holds mul-v add-byte-at byte-at-requires add-v add-k (λ c. omega arith) loop-again returns-3)

@@ -10,39 +10,12 @@ use Rattle.frames.proofs.NumberLaws.{part-within}
 use Rattle.frames.proofs.reading.values.Statement.{statement}
 use Rattle.frames.proofs.reading.values.Tie as tie
 
-value-requires : tie.Need-value-requires
-value-requires c κs = search needs
-
-value-requires-2 : tie.Need-value-requires-2
-value-requires-2 c κs = search needs
-
-value-requires-3 : tie.Need-value-requires-3
-value-requires-3 c κs = search needs
-
-value-requires-4 : tie.Need-value-requires-4
-value-requires-4 c κs = search needs
-
 returns : tie.Need-returns
 unfolding values
 returns c =
     let c3 = c .before in
     let c2 = c3 .before in
     λ i. c2 .before .value .ensures i ∷ c2 .value2 .ensures i ∷ c3 .value3 .ensures i ∷ c .value4 .ensures i ∷ []
-
-frame-requires : tie.Need-frame-requires
-frame-requires c κs = search needs
-
-field-requires : tie.Need-field-requires
-field-requires c κs = search needs
-
-field-requires-2 : tie.Need-field-requires-2
-field-requires-2 c κs = search needs
-
-field-requires-3 : tie.Need-field-requires-3
-field-requires-3 c κs = search needs
-
-field-requires-4 : tie.Need-field-requires-4
-field-requires-4 c κs = search needs
 
 returns-2 : tie.Need-returns-2
 unfolding value values
@@ -63,15 +36,5 @@ returns-2 c =
 pub values-spec : {M : Type 1} → statement M
 values-spec =
     tie.close
-    (tie.spec
-    value-requires
-    value-requires-2
-    value-requires-3
-    value-requires-4
-    returns
-    frame-requires
-    field-requires
-    field-requires-2
-    field-requires-3
-    field-requires-4
-    returns-2)
+    (tie.spec (λ c κs. search needs) (λ c κs. search needs) (λ c κs. search needs) (λ c κs. search needs) returns (λ c κs. search needs)
+    (λ c κs. search needs) (λ c κs. search needs) (λ c κs. search needs) (λ c κs. search needs) returns-2)

@@ -41,9 +41,6 @@ slice-write-to c = omega (arith, long (c .before .before), shorter (c .before .b
 add-i : tie.Need-add-i Inv-loop μ-loop
 add-i c = omega (arith, shorter (c .before .before .before))
 
-loop-less : tie.Need-loop-less Inv-loop μ-loop
-loop-less c = omega arith
-
 loop-again : tie.Need-loop-again Inv-loop μ-loop
 loop-again c =
     let a = c .before .before in
@@ -67,16 +64,4 @@ returns c =
 pub copy-spec : {M : Type 1} → statement M
 copy-spec =
     tie.close
-    (tie.spec
-    Inv-loop
-    μ-loop
-    loop-holds
-    mul-to
-    shared-slice-read-to
-    mul-to-2
-    slice-write-to
-    add-i
-    loop-less
-    loop-again
-    same-length
-    returns)
+    (tie.spec Inv-loop μ-loop loop-holds mul-to shared-slice-read-to mul-to-2 slice-write-to add-i (λ c. omega arith) loop-again same-length returns)

@@ -20,15 +20,6 @@ loop-holds : tie.Need-loop-holds Inv-loop μ-loop
 unfolding clean
 loop-holds c = (search needs, refl)
 
-depth-requires : tie.Need-depth-requires Inv-loop μ-loop
-depth-requires c κs = search needs
-
-add-i : tie.Need-add-i Inv-loop μ-loop
-add-i c = search needs
-
-loop-less : tie.Need-loop-less Inv-loop μ-loop
-loop-less c = search needs
-
 loop-again : tie.Need-loop-again Inv-loop μ-loop
 loop-again c = (search needs, clean-turn _ _ (c .before .before .before .loop .inv .1) (c .before .depth .ensures))
 
@@ -40,6 +31,4 @@ returns c =
     l .loop .inv .1 ∙ ap (clean (row8 (a .h .now) (a .kind .now))) all
 
 pub all-depths-spec : {M : Type 1} → statement M
-all-depths-spec =
-    tie.close
-    (tie.spec Inv-loop μ-loop loop-holds depth-requires add-i loop-less loop-again returns)
+all-depths-spec = tie.close (tie.spec Inv-loop μ-loop loop-holds (λ c κs. search needs) (λ c. search needs) (λ c. search needs) loop-again returns)

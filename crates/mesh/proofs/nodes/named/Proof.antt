@@ -37,31 +37,16 @@ marks-requires c κs = λ j h. lt-of-lt-of-le (c .before .pre .1 j h) (c .before
 loop-holds : tie.Need-loop-holds Inv-loop μ-loop
 loop-holds c = (search needs, below-none _)
 
-array-read-if1 : tie.Need-array-read-if1 Inv-loop μ-loop
-array-read-if1 c = search needs
-
-refuse-requires : tie.Need-refuse-requires Inv-loop μ-loop
-refuse-requires c κs = search needs
-
 returns : tie.Need-returns Inv-loop μ-loop
 returns c =
     let l = c .before .before .before in
     let missing = unnamed-7 _ _ (sym (mark (l .before) _ (omega arith)) ∙ not-true _ (c .before .if1 .taken)) in
     c .refuse .ensures ∙ sym missing ∙ sym (scan-hit _ _ _ (c .before .before .loop-test .taken) (l .loop .inv .1) (seven missing))
 
-add-i : tie.Need-add-i Inv-loop μ-loop
-add-i c = search needs
-
-loop-less : tie.Need-loop-less Inv-loop μ-loop
-loop-less c = search needs
-
 loop-again : tie.Need-loop-again Inv-loop μ-loop
 loop-again c =
     let l = c .before .before in
     (search needs, below-more _ _ (l .loop .inv .1) (named-7 _ _ (sym (mark (l .before) _ (omega arith)) ∙ not-false _ (c .if1 .left))))
-
-accept-requires : tie.Need-accept-requires Inv-loop μ-loop
-accept-requires c κs = search needs
 
 returns-2 : tie.Need-returns-2 Inv-loop μ-loop
 returns-2 c = c .accept .ensures ∙ sym (scan-none _ _ (λ k h. c .before .before .loop .inv .1 k (omega arith)))
@@ -69,16 +54,5 @@ returns-2 c = c .accept .ensures ∙ sym (scan-none _ _ (λ k h. c .before .befo
 pub named-spec : {M : Type 1} → statement M
 named-spec =
     tie.close
-    (tie.spec
-    Inv-loop
-    μ-loop
-    marks-requires
-    loop-holds
-    array-read-if1
-    refuse-requires
-    returns
-    add-i
-    loop-less
-    loop-again
-    accept-requires
-    returns-2)
+    (tie.spec Inv-loop μ-loop marks-requires loop-holds (λ c. search needs) (λ c κs. search needs) returns (λ c. search needs) (λ c. search needs)
+    loop-again (λ c κs. search needs) returns-2)

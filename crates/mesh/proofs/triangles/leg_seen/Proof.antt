@@ -5,23 +5,10 @@ use borrow.Author.Needs.{needs}
 use Rattle.mesh.proofs.triangles.leg_seen.Statement.{statement}
 use Rattle.mesh.proofs.triangles.leg_seen.Tie as tie
 
-leg-requires : tie.Need-leg-requires
-leg-requires c κs = search needs
-
-leg-requires-2 : tie.Need-leg-requires-2
-leg-requires-2 c κs = search needs
-
-leg-requires-3 : tie.Need-leg-requires-3
-leg-requires-3 c κs = search needs
-
-leg-requires-4 : tie.Need-leg-requires-4
-leg-requires-4 c κs = search needs
-
 returns : tie.Need-returns
 returns c =
     let start = c .before .before .before .before in
     rw (c .before .before .before .leg .ensures, c .before .before .leg2 .ensures, c .before .leg3 .ensures, c .leg4 .ensures) (one-of-legs (nodesOf (start .args .c)) _ _ (start .pre .2) (nth-below _ _ ((start .args .j + 1) % 3) (start .pre .1)))
 
 pub leg-seen-spec : {M : Type 1} → statement M
-leg-seen-spec =
-    tie.close (tie.spec leg-requires leg-requires-2 leg-requires-3 leg-requires-4 returns)
+leg-seen-spec = tie.close (tie.spec (λ c κs. search needs) (λ c κs. search needs) (λ c κs. search needs) (λ c κs. search needs) returns)

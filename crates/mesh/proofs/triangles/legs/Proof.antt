@@ -37,14 +37,8 @@ abbrev μ-pairs : tie.MeasureT-pairs
 pairs-holds : tie.Need-pairs-holds Inv-loop2 μ-loop2 Inv-loop μ-loop Inv-pairs μ-pairs
 pairs-holds c = (search needs, below-none _)
 
-corners-at-requires : tie.Need-corners-at-requires Inv-loop2 μ-loop2 Inv-loop μ-loop Inv-pairs μ-pairs
-corners-at-requires c κs = search needs
-
 loop-holds : tie.Need-loop-holds Inv-loop2 μ-loop2 Inv-loop μ-loop Inv-pairs μ-pairs
 loop-holds c = (search needs, below-none _)
-
-corners-at-requires-2 : tie.Need-corners-at-requires-2 Inv-loop2 μ-loop2 Inv-loop μ-loop Inv-pairs μ-pairs
-corners-at-requires-2 c κs = search needs
 
 loop2-holds : tie.Need-loop2-holds Inv-loop2 μ-loop2 Inv-loop μ-loop Inv-pairs μ-pairs
 loop2-holds c = (search needs, below-none _)
@@ -56,12 +50,6 @@ leg-seen-requires c κs =
     let small = corners-small (p .before .before .args .tri .now) (p .before .shared-slice-known .given) in
     (search needs, rw (l .before .corners-at .ensures) (small (p .pairs .t)), rw (c .before .before .corners-at2 .ensures) (small (l .loop .s)))
 
-add-j : tie.Need-add-j Inv-loop2 μ-loop2 Inv-loop μ-loop Inv-pairs μ-pairs
-add-j c = search needs
-
-loop2-less : tie.Need-loop2-less Inv-loop2 μ-loop2 Inv-loop μ-loop Inv-pairs μ-pairs
-loop2-less c = search needs
-
 loop2-again : tie.Need-loop2-again Inv-loop2 μ-loop2 Inv-loop μ-loop Inv-pairs μ-pairs
 loop2-again c =
     let k = c .before .before .before in
@@ -70,29 +58,11 @@ loop2-again c =
     let its = seen-leg (p .before .before .args .tri .now) (p .pairs .t) (k .loop2 .j) (l .loop .s) (c .before .before .loop2-test .taken) (l .before .corners-at .ensures) (k .before .corners-at2 .ensures) in
     (search needs, below-more _ _ (k .loop2 .inv .1) (sym its ∙ sym (c .before .leg-seen .ensures) ∙ c .if1 .left))
 
-add-s : tie.Need-add-s Inv-loop2 μ-loop2 Inv-loop μ-loop Inv-pairs μ-pairs
-add-s c = search needs
-
-loop-less : tie.Need-loop-less Inv-loop2 μ-loop2 Inv-loop μ-loop Inv-pairs μ-pairs
-loop-less c = search needs
-
 loop-again : tie.Need-loop-again Inv-loop2 μ-loop2 Inv-loop μ-loop Inv-pairs μ-pairs
 loop-again c = (search needs, below-more _ _ (c .before .before .before .before .loop .inv .1) (some-none _ 3 (λ q h. c .before .loop2 .inv .1 q (omega arith))))
 
-add-t : tie.Need-add-t Inv-loop2 μ-loop2 Inv-loop μ-loop Inv-pairs μ-pairs
-add-t c = search needs
-
-pairs-less : tie.Need-pairs-less Inv-loop2 μ-loop2 Inv-loop μ-loop Inv-pairs μ-pairs
-pairs-less c = search needs
-
 pairs-again : tie.Need-pairs-again Inv-loop2 μ-loop2 Inv-loop μ-loop Inv-pairs μ-pairs
 pairs-again c = (search needs, below-more _ _ (c .before .before .before .before .pairs .inv .1) (legs-new _ _ (λ q h. c .before .loop .inv .1 q (omega arith))))
-
-refuse-requires : tie.Need-refuse-requires Inv-loop2 μ-loop2 Inv-loop μ-loop Inv-pairs μ-pairs
-refuse-requires c κs = search needs
-
-accept-requires : tie.Need-accept-requires Inv-loop2 μ-loop2 Inv-loop μ-loop Inv-pairs μ-pairs
-accept-requires c κs = search needs
 
 returns : tie.Need-returns Inv-loop2 μ-loop2 Inv-loop μ-loop Inv-pairs μ-pairs
 returns c =
@@ -113,29 +83,6 @@ returns-2 c = c .accept .ensures ∙ sym (scan-none _ _ (λ k h. c .before .befo
 pub legs-spec : {M : Type 1} → statement M
 legs-spec =
     tie.close
-    (tie.spec
-    Inv-loop2
-    μ-loop2
-    Inv-loop
-    μ-loop
-    Inv-pairs
-    μ-pairs
-    pairs-holds
-    corners-at-requires
-    loop-holds
-    corners-at-requires-2
-    loop2-holds
-    leg-seen-requires
-    add-j
-    loop2-less
-    loop2-again
-    add-s
-    loop-less
-    loop-again
-    add-t
-    pairs-less
-    pairs-again
-    refuse-requires
-    accept-requires
-    returns
-    returns-2)
+    (tie.spec Inv-loop2 μ-loop2 Inv-loop μ-loop Inv-pairs μ-pairs pairs-holds (λ c κs. search needs) loop-holds (λ c κs. search needs) loop2-holds
+    leg-seen-requires (λ c. search needs) (λ c. search needs) loop2-again (λ c. search needs) (λ c. search needs) loop-again (λ c. search needs)
+    (λ c. search needs) pairs-again (λ c κs. search needs) (λ c κs. search needs) returns returns-2)

@@ -4,12 +4,6 @@ use borrow.Author.Needs.{needs}
 use Rattle.mesh.proofs.triangles.legs_if.Statement.{statement}
 use Rattle.mesh.proofs.triangles.legs_if.Tie as tie
 
-legs-requires : tie.Need-legs-requires
-legs-requires c κs = search needs
-
-accept-requires : tie.Need-accept-requires
-accept-requires c κs = search needs
-
 returns : tie.Need-returns
 unfolding row6If
 returns c = c .legs .ensures ∙ rw (c .before .if1 .taken)
@@ -19,4 +13,4 @@ unfolding row6If
 returns-2 c = c .accept .ensures ∙ rw (c .before .if1 .left)
 
 pub legs-if-spec : {M : Type 1} → statement M
-legs-if-spec = tie.close (tie.spec legs-requires accept-requires returns returns-2)
+legs-if-spec = tie.close (tie.spec (λ c κs. search needs) (λ c κs. search needs) returns returns-2)

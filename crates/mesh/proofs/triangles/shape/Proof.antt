@@ -7,7 +7,6 @@ use lib.Signed.{ltZ}
 use lib.ListN.{length}
 use Rattle.lists.specs.Gather.{Three}
 use Rattle.lists.specs.Scan.{row}
-use Rattle.geometry.specs.declared.WholeSides.{WholeSides}
 use Rattle.mesh.specs.Lent.{corners}
 use Rattle.geometry.specs.Geometry.{nodesOf, allNear, nearD}
 use Rattle.mesh.specs.Geometry.{sides}
@@ -44,29 +43,8 @@ its-sides c =
 sized : (c : tie.After-all-near) (b : Bool) → c .all-near .result ≡ b → let a = c .before .before .before .before .before .before .before .before .before .args in allNear (sides (a .x .now) (a .y .now) (corners (a .tri .now) (a .t))) ≡ b
 sized c b e = ap allNear (sym (its-sides (c .before))) ∙ sym (c .all-near .ensures) ∙ e
 
-corners-at-requires : tie.Need-corners-at-requires
-corners-at-requires c κs = search needs
-
 places-at-requires : tie.Need-places-at-requires
 places-at-requires c κs = (c .before .before .before .before .before .before .pre .0, below-all _ _ (inside c))
-
-sides-of-requires : tie.Need-sides-of-requires
-sides-of-requires c κs = search needs
-
-all-near-requires : tie.Need-all-near-requires
-all-near-requires c κs = search needs
-
-twice-area-requires : tie.Need-twice-area-requires
-twice-area-requires c κs = search needs
-
-tested-requires : tie.Need-tested-requires
-tested-requires c κs = search needs
-
-refuse-requires : tie.Need-refuse-requires
-refuse-requires c κs = search needs
-
-refuse-requires-2 : tie.Need-refuse-requires-2
-refuse-requires-2 c κs = search needs
 
 returns : tie.Need-returns
 returns c =
@@ -92,15 +70,5 @@ returns-3 c =
 pub shape-spec : {M : Type 1} → statement M
 shape-spec =
     tie.close
-    (tie.spec
-    corners-at-requires
-    places-at-requires
-    sides-of-requires
-    all-near-requires
-    twice-area-requires
-    tested-requires
-    refuse-requires
-    refuse-requires-2
-    returns
-    returns-2
-    returns-3)
+    (tie.spec (λ c κs. search needs) places-at-requires (λ c κs. search needs) (λ c κs. search needs) (λ c κs. search needs) (λ c κs. search needs)
+    (λ c κs. search needs) (λ c κs. search needs) returns returns-2 returns-3)

@@ -27,17 +27,8 @@ returns c =
     let e = c .before .before .shape .ensures in
     e ∙ sym (scan-hit _ _ _ (c .before .before .before .loop-test .taken) (l .loop .inv .1) (other-number e (c .if1 .taken)))
 
-add-t : tie.Need-add-t Inv-loop μ-loop
-add-t c = search needs
-
-loop-less : tie.Need-loop-less Inv-loop μ-loop
-loop-less c = search needs
-
 loop-again : tie.Need-loop-again Inv-loop μ-loop
 loop-again c = (search needs, below-more _ _ (c .before .before .before .before .loop .inv .1) (same-number (c .before .before .shape .ensures) (c .if1 .left)))
-
-accept-requires : tie.Need-accept-requires Inv-loop μ-loop
-accept-requires c κs = search needs
 
 returns-2 : tie.Need-returns-2 Inv-loop μ-loop
 returns-2 c = c .accept .ensures ∙ sym (scan-none _ _ (λ k h. c .before .before .loop .inv .1 k (omega arith)))
@@ -45,14 +36,4 @@ returns-2 c = c .accept .ensures ∙ sym (scan-none _ _ (λ k h. c .before .befo
 pub shapes-spec : {M : Type 1} → statement M
 shapes-spec =
     tie.close
-    (tie.spec
-    Inv-loop
-    μ-loop
-    loop-holds
-    shape-requires
-    returns
-    add-t
-    loop-less
-    loop-again
-    accept-requires
-    returns-2)
+    (tie.spec Inv-loop μ-loop loop-holds shape-requires returns (λ c. search needs) (λ c. search needs) loop-again (λ c κs. search needs) returns-2)

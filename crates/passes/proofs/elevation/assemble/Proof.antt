@@ -1,19 +1,16 @@
 use Prim.Native.Nat.{ℕ, _-_, _≤_}
-use mathlib.Core.Path.{_≡_, sym, ap, subst, _∙_}
-use mathlib.Core.Bool.{true}
+use mathlib.Core.Path.{_≡_, sym, ap, _∙_}
 use native.Mathlib.Omega.{arith}
 use borrow.Author.Needs.{needs}
-use lib.IntN.{pos, natAbs}
 use lib.ListN.{length}
 use Rattle.lists.specs.Table.{table}
 use Rattle.lists.specs.Gather.{Below}
 use Rattle.lists.proofs.TableLaws.{length-table}
 use Rattle.geometry.specs.declared.WholeSides.{WholeSides}
-use Rattle.equations.specs.declared.Sides.{Sides}
 use Rattle.geometry.proofs.GeometryLaws.{near-floats, near-count}
 use Rattle.mesh.proofs.SideLaws.{sides-read}
 use Rattle.mesh.specs.Lent.{corners}
-use Rattle.geometry.specs.Geometry.{nodesOf, D, allNear, floats, nearFloats, nearD, counted, sidesAt}
+use Rattle.geometry.specs.Geometry.{nodesOf, floats, nearFloats, nearD, counted, sidesAt}
 use Rattle.mesh.specs.Geometry.{sides, area}
 use Rattle.mesh.specs.Accepted.{Sound}
 use Rattle.equations.specs.Elevation.{shares}
@@ -79,9 +76,6 @@ loop-holds c =
     let a = c .before .before .before .before .before in
     (omega arith, (a .pre .1 .0 ∙ R-none (its a), a .pre .1 .1 ∙ S-none (its a)))
 
-corners-at-requires : tie.Need-corners-at-requires Inv-loop μ-loop
-corners-at-requires c κs = search needs
-
 places-at-requires : tie.Need-places-at-requires Inv-loop μ-loop
 places-at-requires c κs = (ready (c .before .before) .y, rw (c .corners-at .ensures) (sound (c .before) .nodes))
 
@@ -95,12 +89,6 @@ spread-requires c κs =
     let l = c .before .before .before .before .before in
     rw (ap length (l .loop .inv .1 .0) ∙ length-table _ _) (inside (c .before .before .before))
 
-sides-of-requires : tie.Need-sides-of-requires Inv-loop μ-loop
-sides-of-requires c κs = search needs
-
-area-of-requires : tie.Need-area-of-requires Inv-loop μ-loop
-area-of-requires c κs = search needs
-
 spread-area-requires : tie.Need-spread-area-requires Inv-loop μ-loop
 spread-area-requires c κs =
     let d = c .before .before .before .before .before .before .before .before in
@@ -113,9 +101,6 @@ add-t : tie.Need-add-t Inv-loop μ-loop
 add-t c =
     let i = c .before .before .before .before .before .before .before .before .before .before .before .before .before in
     record { fits = omega (arith, i .loop-test .taken, ready (i .before) .few) }
-
-loop-less : tie.Need-loop-less Inv-loop μ-loop
-loop-less c = search needs
 
 loop-again : tie.Need-loop-again Inv-loop μ-loop
 loop-again c =
@@ -152,20 +137,5 @@ returns c =
 pub assemble-spec : {M : Type 1} → statement M
 assemble-spec =
     tie.close
-    (tie.spec
-    Inv-loop
-    μ-loop
-    loop-holds
-    corners-at-requires
-    places-at-requires
-    shares-of-requires
-    spread-requires
-    sides-of-requires
-    area-of-requires
-    spread-area-requires
-    add-t
-    loop-less
-    loop-again
-    same-length
-    same-length-2
-    returns)
+    (tie.spec Inv-loop μ-loop loop-holds (λ c κs. search needs) places-at-requires shares-of-requires spread-requires (λ c κs. search needs)
+    (λ c κs. search needs) spread-area-requires add-t (λ c. search needs) loop-again same-length same-length-2 returns)

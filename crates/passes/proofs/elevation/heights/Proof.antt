@@ -18,21 +18,6 @@ abbrev μ-loop : tie.MeasureT-loop
 loop-holds : tie.Need-loop-holds Inv-loop μ-loop
 loop-holds c = (search needs, below-none _)
 
-mul-height : tie.Need-mul-height Inv-loop μ-loop
-mul-height c = search needs
-
-shared-slice-read-height : tie.Need-shared-slice-read-height Inv-loop μ-loop
-shared-slice-read-height c = search needs
-
-mul-height-2 : tie.Need-mul-height-2 Inv-loop μ-loop
-mul-height-2 c = search needs
-
-shared-slice-read-height-2 : tie.Need-shared-slice-read-height-2 Inv-loop μ-loop
-shared-slice-read-height-2 c = search needs
-
-height-requires : tie.Need-height-requires Inv-loop μ-loop
-height-requires c κs = search needs
-
 -- the answer is row 13 of this node
 answered : (c : tie.After-height Inv-loop μ-loop) → let l = c .before .before .before .before in let a = l .before .before .before .args in
     c .height .result ≡ heightAt (a .h .now) (a .z .now) (l .loop .i)
@@ -45,19 +30,10 @@ returns c =
     let l = t .before .before .before .before in
     answered t ∙ sym (scan-hit _ _ _ (t .before .before .before .loop-test .taken) (l .loop .inv .1) (other-number (answered t) (c .if1 .taken)))
 
-add-i : tie.Need-add-i Inv-loop μ-loop
-add-i c = search needs
-
-loop-less : tie.Need-loop-less Inv-loop μ-loop
-loop-less c = search needs
-
 loop-again : tie.Need-loop-again Inv-loop μ-loop
 loop-again c =
     let t = c .before .before in
     (search needs, below-more _ _ (t .before .before .before .before .loop .inv .1) (same-number (answered t) (c .if1 .left)))
-
-accept-requires : tie.Need-accept-requires Inv-loop μ-loop
-accept-requires c κs = search needs
 
 returns-2 : tie.Need-returns-2 Inv-loop μ-loop
 returns-2 c = c .accept .ensures ∙ sym (scan-none _ _ (λ k h. c .before .before .loop .inv .1 k (omega arith)))
@@ -65,18 +41,5 @@ returns-2 c = c .accept .ensures ∙ sym (scan-none _ _ (λ k h. c .before .befo
 pub heights-spec : {M : Type 1} → statement M
 heights-spec =
     tie.close
-    (tie.spec
-    Inv-loop
-    μ-loop
-    loop-holds
-    mul-height
-    shared-slice-read-height
-    mul-height-2
-    shared-slice-read-height-2
-    height-requires
-    returns
-    add-i
-    loop-less
-    loop-again
-    accept-requires
-    returns-2)
+    (tie.spec Inv-loop μ-loop loop-holds (λ c. search needs) (λ c. search needs) (λ c. search needs) (λ c. search needs) (λ c κs. search needs)
+    returns (λ c. search needs) (λ c. search needs) loop-again (λ c κs. search needs) returns-2)

@@ -27,21 +27,6 @@ wide k = ap length (k .clear .ensures) ∙ length-table _ _ ∙ start k .pre .1 
 wiped : (k : tie.After-clear) → k .clear .last .0 ≡ table (length (k .clear .last .0)) (λ _. plus0)
 wiped k = k .clear .ensures ∙ ap (λ (n : ℕ). table n (λ _. plus0)) (start k .pre .1 .0 ∙ sym (wide k))
 
-clear-requires : tie.Need-clear-requires
-clear-requires c κs = search needs
-
-clear-whole-requires : tie.Need-clear-whole-requires
-clear-whole-requires c κs = search needs
-
-sub-raise : tie.Need-sub-raise
-sub-raise c = search needs
-
-part-raise-start : tie.Need-part-raise-start
-part-raise-start c = search needs
-
-part-raise-end : tie.Need-part-raise-end
-part-raise-end c = search needs
-
 raise-requires : tie.Need-raise-requires
 raise-requires c κs =
     let k = c .before .before .before .before .before .before .before .before in
@@ -53,12 +38,6 @@ raise-requires c κs =
         w .clear-whole .ensures ∙ ap (λ (n : ℕ). table n (λ _. 0)) (s .pre .1 .1),
       ),
     )
-
-same-length : tie.Need-same-length
-same-length c = search needs
-
-same-length-2 : tie.Need-same-length-2
-same-length-2 c = search needs
 
 returns : tie.Need-returns
 returns c =
@@ -76,13 +55,5 @@ returns c =
 pub levels-spec : {M : Type 1} → statement M
 levels-spec =
     tie.close
-    (tie.spec
-    clear-requires
-    clear-whole-requires
-    sub-raise
-    part-raise-start
-    part-raise-end
-    raise-requires
-    same-length
-    same-length-2
-    returns)
+    (tie.spec (λ c κs. search needs) (λ c κs. search needs) (λ c. search needs) (λ c. search needs) (λ c. search needs) raise-requires
+    (λ c. search needs) (λ c. search needs) returns)

@@ -33,23 +33,11 @@ made r =
     let s = start (passed r) in
     r .rises .ensures .1 ∙ ap (λ (w : Rising). table (length (w .h)) (riseIn w)) (found (passed r)) ∙ all-rise (its s) (s .pre .0)
 
-assemble-requires : tie.Need-assemble-requires
-assemble-requires c κs = search needs
-
 rises-requires : tie.Need-rises-requires
 rises-requires c κs =
     let m = c .before .before .before .before .before .before in
     let s = start m in
     subst RisingFits (sym (found m)) (risen-fits (its s) (s .pre .0))
-
-accept-requires : tie.Need-accept-requires
-accept-requires c κs = search needs
-
-same-length : tie.Need-same-length
-same-length c = search needs
-
-same-length-2 : tie.Need-same-length-2
-same-length-2 c = search needs
 
 returns : tie.Need-returns
 returns c =
@@ -64,12 +52,6 @@ returns c =
 heights-requires : tie.Need-heights-requires
 heights-requires c κs = ap length (made (c .before .before .before .before)) ∙ length-table _ _
 
-same-length-3 : tie.Need-same-length-3
-same-length-3 c = search needs
-
-same-length-4 : tie.Need-same-length-4
-same-length-4 c = search needs
-
 returns-2 : tie.Need-returns-2
 returns-2 c =
     let r = c .before .before .before .before .before in
@@ -82,14 +64,5 @@ returns-2 c =
 pub raise-spec : {M : Type 1} → statement M
 raise-spec =
     tie.close
-    (tie.spec
-    assemble-requires
-    rises-requires
-    accept-requires
-    same-length
-    same-length-2
-    returns
-    heights-requires
-    same-length-3
-    same-length-4
-    returns-2)
+    (tie.spec (λ c κs. search needs) rises-requires (λ c κs. search needs) (λ c. search needs) (λ c. search needs) returns heights-requires
+    (λ c. search needs) (λ c. search needs) returns-2)

@@ -5,15 +5,6 @@ use borrow.Author.Needs.{needs}
 use Rattle.passes.proofs.elevation.rise_of.Statement.{statement}
 use Rattle.passes.proofs.elevation.rise_of.Tie as tie
 
-sum-of-requires : tie.Need-sum-of-requires
-sum-of-requires c κs = search needs
-
-lumped-requires : tie.Need-lumped-requires
-lumped-requires c κs = search needs
-
-risen-requires : tie.Need-risen-requires
-risen-requires c κs = search needs
-
 returns : tie.Need-returns
 unfolding riseOf
 returns c = rw (eq-eqb _ _ (c .if1 .taken))
@@ -30,5 +21,4 @@ returns-2 c =
     )
 
 pub rise-of-spec : {M : Type 1} → statement M
-rise-of-spec =
-    tie.close (tie.spec sum-of-requires lumped-requires risen-requires returns returns-2)
+rise-of-spec = tie.close (tie.spec (λ c κs. search needs) (λ c κs. search needs) (λ c κs. search needs) returns returns-2)

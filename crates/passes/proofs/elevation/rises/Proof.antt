@@ -66,35 +66,14 @@ node-of-requires c κs = (c .loop-test .taken, fits (c .before) .state)
 shared-slice-read-rise-of : tie.Need-shared-slice-read-rise-of Inv-loop μ-loop
 shared-slice-read-rise-of c = omega (arith, fits (c .before .before .before) .kind, c .before .before .loop-test .taken)
 
-mul-rise-of : tie.Need-mul-rise-of Inv-loop μ-loop
-mul-rise-of c = search needs
-
 shared-slice-read-rise-of-2 : tie.Need-shared-slice-read-rise-of-2 Inv-loop μ-loop
 shared-slice-read-rise-of-2 c = omega (arith, fits (c .before .before .before .before) .sums, c .before .before .before .loop-test .taken)
-
-mul-rise-of-2 : tie.Need-mul-rise-of-2 Inv-loop μ-loop
-mul-rise-of-2 c = search needs
 
 slice-read-rise-of : tie.Need-slice-read-rise-of Inv-loop μ-loop
 slice-read-rise-of c = inside (c .before .before .before .before)
 
-rise-of-requires : tie.Need-rise-of-requires Inv-loop μ-loop
-rise-of-requires c κs = search needs
-
-mul-r : tie.Need-mul-r Inv-loop μ-loop
-mul-r c = search needs
-
 slice-write-r : tie.Need-slice-write-r Inv-loop μ-loop
 slice-write-r c = inside (c .before .before .before .before .before)
-
-height-requires : tie.Need-height-requires Inv-loop μ-loop
-height-requires c κs = search needs
-
-add-i : tie.Need-add-i Inv-loop μ-loop
-add-i c = search needs
-
-loop-less : tie.Need-loop-less Inv-loop μ-loop
-loop-less c = search needs
 
 loop-again : tie.Need-loop-again Inv-loop μ-loop
 loop-again c =
@@ -126,22 +105,6 @@ returns c =
 pub rises-spec : {M : Type 1} → statement M
 rises-spec =
     tie.close
-    (tie.spec
-    Inv-loop
-    μ-loop
-    loop-holds
-    node-of-requires
-    shared-slice-read-rise-of
-    mul-rise-of
-    shared-slice-read-rise-of-2
-    mul-rise-of-2
-    slice-read-rise-of
-    rise-of-requires
-    mul-r
-    slice-write-r
-    height-requires
-    add-i
-    loop-less
-    loop-again
-    same-length
-    returns)
+    (tie.spec Inv-loop μ-loop loop-holds node-of-requires shared-slice-read-rise-of (λ c. search needs) shared-slice-read-rise-of-2
+    (λ c. search needs) slice-read-rise-of (λ c κs. search needs) (λ c. search needs) slice-write-r (λ c κs. search needs) (λ c. search needs)
+    (λ c. search needs) loop-again same-length returns)

@@ -40,9 +40,6 @@ add-area-requires-3 c κs =
     let s = p .before .before .before .before .before .before .before in
     (rw (long2 p) (s .pre .0 .third), free2 p (s .args .c .n3))
 
-same-length : tie.Need-same-length
-same-length c = search needs
-
 returns : tie.Need-returns
 unfolding spread
 returns c =
@@ -52,6 +49,4 @@ returns c =
     third .add-area3 .ensures ∙ rw (second .add-area2 .ensures, first .add-area .ensures)
 
 pub spread-area-spec : {M : Type 1} → statement M
-spread-area-spec =
-    tie.close
-    (tie.spec add-area-requires add-area-requires-2 add-area-requires-3 same-length returns)
+spread-area-spec = tie.close (tie.spec add-area-requires add-area-requires-2 add-area-requires-3 (λ c. search needs) returns)

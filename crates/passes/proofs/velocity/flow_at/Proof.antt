@@ -10,24 +10,6 @@ use Rattle.passes.specs.Equations.{flowOf}
 use Rattle.passes.proofs.velocity.flow_at.Statement.{statement}
 use Rattle.passes.proofs.velocity.flow_at.Tie as tie
 
-node-of-requires : tie.Need-node-of-requires
-node-of-requires c κs = search needs
-
-mul-sum-of : tie.Need-mul-sum-of
-mul-sum-of c = search needs
-
-shared-slice-read-sum-of : tie.Need-shared-slice-read-sum-of
-shared-slice-read-sum-of c = search needs
-
-sum-of-requires : tie.Need-sum-of-requires
-sum-of-requires c κs = search needs
-
-flow-requires : tie.Need-flow-requires
-flow-requires c κs = search needs
-
-shared-slice-read-held : tie.Need-shared-slice-read-held
-shared-slice-read-held c = search needs
-
 -- U' as the first choice leaves it
 chosen : (c : tie.Joined1) → let f = c .before .before in let a = f .before .before .before .before .before .before .before .before .args in
     c .if1 .t43 ≡ cond (eqb (getD (a .kind .now) (a .i) 0) 2) plus0 (f .flow .result .u)
@@ -47,12 +29,5 @@ returns-2 c =
 pub flow-at-spec : {M : Type 1} → statement M
 flow-at-spec =
     tie.close
-    (tie.spec
-    node-of-requires
-    mul-sum-of
-    shared-slice-read-sum-of
-    sum-of-requires
-    flow-requires
-    shared-slice-read-held
-    returns
+    (tie.spec (λ c κs. search needs) (λ c. search needs) (λ c. search needs) (λ c κs. search needs) (λ c κs. search needs) (λ c. search needs) returns
     returns-2)

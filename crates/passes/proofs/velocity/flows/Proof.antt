@@ -98,14 +98,8 @@ flow-at-requires c κs =
 write-flow-requires : tie.Need-write-flow-requires Inv-loop μ-loop
 write-flow-requires c κs = let t = c .before .before .before .before .before in (t .loop-test .taken, roomy (t .before))
 
-speed-requires : tie.Need-speed-requires Inv-loop μ-loop
-speed-requires c κs = search needs
-
 add-i : tie.Need-add-i Inv-loop μ-loop
 add-i c = let t = c .before .before .before .before .before .before .before .before .before .before in record { fits = omega (arith, t .loop-test .taken, start (t .before) .good) }
-
-loop-less : tie.Need-loop-less Inv-loop μ-loop
-loop-less c = search needs
 
 loop-again : tie.Need-loop-again Inv-loop μ-loop
 loop-again c =
@@ -136,24 +130,6 @@ returns c =
 pub flows-spec : {M : Type 1} → statement M
 flows-spec =
     tie.close
-    (tie.spec
-    Inv-loop
-    μ-loop
-    loop-holds
-    mul-flow-at
-    slice-read-flow-at
-    add-flow-at
-    mul-flow-at-2
-    slice-read-flow-at-2
-    mul-flow-at-3
-    add-flow-at-2
-    mul-flow-at-4
-    slice-read-flow-at-3
-    flow-at-requires
-    write-flow-requires
-    speed-requires
-    add-i
-    loop-less
-    loop-again
-    same-length
+    (tie.spec Inv-loop μ-loop loop-holds mul-flow-at slice-read-flow-at add-flow-at mul-flow-at-2 slice-read-flow-at-2 mul-flow-at-3 add-flow-at-2
+    mul-flow-at-4 slice-read-flow-at-3 flow-at-requires write-flow-requires (λ c κs. search needs) add-i (λ c. search needs) loop-again same-length
     returns)

@@ -1,6 +1,5 @@
 use Prim.Native.Nat.{_-_, _*_, _/_, _≤_}
 use mathlib.Core.Path.{_≡_, sym, ap, _∙_}
-use mathlib.Core.Bool.{true}
 use native.Mathlib.Omega.{arith}
 use borrow.Author.Needs.{needs}
 use lib.ListN.{length}
@@ -49,14 +48,8 @@ its-floats c =
 loop-holds : tie.Need-loop-holds Inv-loop μ-loop
 loop-holds c = (omega arith, c .before .before .before .pre .1)
 
-corners-at-requires : tie.Need-corners-at-requires Inv-loop μ-loop
-corners-at-requires c κs = search needs
-
 places-at-requires : tie.Need-places-at-requires Inv-loop μ-loop
 places-at-requires c κs = let l = c .before .before in (fits l .y, inside c)
-
-floats-of-requires : tie.Need-floats-of-requires Inv-loop μ-loop
-floats-of-requires c κs = search needs
 
 slope-of-requires : tie.Need-slope-of-requires Inv-loop μ-loop
 slope-of-requires c κs = let l = c .before .before .before .before .before in (inside (c .before .before .before), fits l .state, long l)
@@ -66,9 +59,6 @@ spread-slope-requires c κs = let l = c .before .before .before .before .before 
 
 add-t : tie.Need-add-t Inv-loop μ-loop
 add-t c = let i = c .before .before .before .before .before .before .before .before .before in record { fits = omega (arith, i .loop-test .taken, start (i .before) .good) }
-
-loop-less : tie.Need-loop-less Inv-loop μ-loop
-loop-less c = search needs
 
 loop-again : tie.Need-loop-again Inv-loop μ-loop
 loop-again c =
@@ -93,17 +83,5 @@ returns c =
 pub slopes-spec : {M : Type 1} → statement M
 slopes-spec =
     tie.close
-    (tie.spec
-    Inv-loop
-    μ-loop
-    loop-holds
-    corners-at-requires
-    places-at-requires
-    floats-of-requires
-    slope-of-requires
-    spread-slope-requires
-    add-t
-    loop-less
-    loop-again
-    same-length
-    returns)
+    (tie.spec Inv-loop μ-loop loop-holds (λ c κs. search needs) places-at-requires (λ c κs. search needs) slope-of-requires spread-slope-requires
+    add-t (λ c. search needs) loop-again same-length returns)

@@ -18,30 +18,6 @@ abbrev μ-loop : tie.MeasureT-loop
 loop-holds : tie.Need-loop-holds Inv-loop μ-loop
 loop-holds c = (search needs, below-none _)
 
-add-t7 : tie.Need-add-t7 Inv-loop μ-loop
-add-t7 c = search needs
-
-mul-t8 : tie.Need-mul-t8 Inv-loop μ-loop
-mul-t8 c = search needs
-
-shared-slice-read-t10 : tie.Need-shared-slice-read-t10 Inv-loop μ-loop
-shared-slice-read-t10 c = search needs
-
-mul-t11 : tie.Need-mul-t11 Inv-loop μ-loop
-mul-t11 c = search needs
-
-add-t12 : tie.Need-add-t12 Inv-loop μ-loop
-add-t12 c = search needs
-
-mul-t13 : tie.Need-mul-t13 Inv-loop μ-loop
-mul-t13 c = search needs
-
-shared-slice-read-t15 : tie.Need-shared-slice-read-t15 Inv-loop μ-loop
-shared-slice-read-t15 c = search needs
-
-speed-requires : tie.Need-speed-requires Inv-loop μ-loop
-speed-requires c κs = search needs
-
 -- the answer is row 13 of this node
 answered : (c : tie.After-speed Inv-loop μ-loop) → let l = c .before .before .before .before in let a = l .before .before .args in
     c .speed .result ≡ speedAt (a .n) (a .work .now) (l .loop .i)
@@ -54,19 +30,10 @@ returns c =
     let l = s .before .before .before .before in
     answered s ∙ sym (scan-hit _ _ _ (s .before .before .before .loop-test .taken) (l .loop .inv .1) (other-number (answered s) (c .if1 .taken)))
 
-add-i : tie.Need-add-i Inv-loop μ-loop
-add-i c = search needs
-
-loop-less : tie.Need-loop-less Inv-loop μ-loop
-loop-less c = search needs
-
 loop-again : tie.Need-loop-again Inv-loop μ-loop
 loop-again c =
     let s = c .before .before in
     (search needs, below-more _ _ (s .before .before .before .before .loop .inv .1) (same-number (answered s) (c .if1 .left)))
-
-accept-requires : tie.Need-accept-requires Inv-loop μ-loop
-accept-requires c κs = search needs
 
 returns-2 : tie.Need-returns-2 Inv-loop μ-loop
 returns-2 c = c .accept .ensures ∙ sym (scan-none _ _ (λ k h. c .before .before .loop .inv .1 k (omega arith)))
@@ -74,21 +41,6 @@ returns-2 c = c .accept .ensures ∙ sym (scan-none _ _ (λ k h. c .before .befo
 pub speeds-spec : {M : Type 1} → statement M
 speeds-spec =
     tie.close
-    (tie.spec
-    Inv-loop
-    μ-loop
-    loop-holds
-    add-t7
-    mul-t8
-    shared-slice-read-t10
-    mul-t11
-    add-t12
-    mul-t13
-    shared-slice-read-t15
-    speed-requires
-    returns
-    add-i
-    loop-less
-    loop-again
-    accept-requires
+    (tie.spec Inv-loop μ-loop loop-holds (λ c. search needs) (λ c. search needs) (λ c. search needs) (λ c. search needs) (λ c. search needs)
+    (λ c. search needs) (λ c. search needs) (λ c κs. search needs) returns (λ c. search needs) (λ c. search needs) loop-again (λ c κs. search needs)
     returns-2)

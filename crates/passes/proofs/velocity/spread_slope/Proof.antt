@@ -12,51 +12,6 @@ use borrow.Author.Needs.{needs}
 use Rattle.passes.proofs.velocity.spread_slope.Statement.{statement}
 use Rattle.passes.proofs.velocity.spread_slope.Tie as tie
 
-mul-second : tie.Need-mul-second
-mul-second c = search needs
-
-mul-third : tie.Need-mul-third
-mul-third c = search needs
-
-mul-spread : tie.Need-mul-spread
-mul-spread c = search needs
-
-sub-spread : tie.Need-sub-spread
-sub-spread c = search needs
-
-part-spread-start : tie.Need-part-spread-start
-part-spread-start c = search needs
-
-part-spread-end : tie.Need-part-spread-end
-part-spread-end c = search needs
-
-alike-requires : tie.Need-alike-requires
-alike-requires c κs = search needs
-
-spread-requires : tie.Need-spread-requires
-spread-requires c κs = search needs
-
-mul-spread-2 : tie.Need-mul-spread-2
-mul-spread-2 c = search needs
-
-sub-spread-2 : tie.Need-sub-spread-2
-sub-spread-2 c = search needs
-
-part-spread-start-2 : tie.Need-part-spread-start-2
-part-spread-start-2 c = search needs
-
-part-spread-end-2 : tie.Need-part-spread-end-2
-part-spread-end-2 c = search needs
-
-alike-requires-2 : tie.Need-alike-requires-2
-alike-requires-2 c κs = search needs
-
-spread-requires-2 : tie.Need-spread-requires-2
-spread-requires-2 c κs = search needs
-
-same-length : tie.Need-same-length
-same-length c = search needs
-
 returns : tie.Need-returns
 returns c =
     let second = c .before .before .before .before .before .before .before in
@@ -75,20 +30,6 @@ returns c =
 pub spread-slope-spec : {M : Type 1} → statement M
 spread-slope-spec =
     tie.close
-    (tie.spec
-    mul-second
-    mul-third
-    mul-spread
-    sub-spread
-    part-spread-start
-    part-spread-end
-    alike-requires
-    spread-requires
-    mul-spread-2
-    sub-spread-2
-    part-spread-start-2
-    part-spread-end-2
-    alike-requires-2
-    spread-requires-2
-    same-length
-    returns)
+    (tie.spec (λ c. search needs) (λ c. search needs) (λ c. search needs) (λ c. search needs) (λ c. search needs) (λ c. search needs)
+    (λ c κs. search needs) (λ c κs. search needs) (λ c. search needs) (λ c. search needs) (λ c. search needs) (λ c. search needs)
+    (λ c κs. search needs) (λ c κs. search needs) (λ c. search needs) returns)

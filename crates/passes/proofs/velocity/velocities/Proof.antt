@@ -59,12 +59,6 @@ flows-requires c κs =
     let s = start m in
     (subst MovingFits (sym (moved-here m)) (moved-fits (its s) (s .pre .0)), roomy m)
 
-accept-requires : tie.Need-accept-requires
-accept-requires c κs = search needs
-
-same-length : tie.Need-same-length
-same-length c = search needs
-
 returns : tie.Need-returns
 returns c =
     let f = c .before .before .before .before in
@@ -78,9 +72,6 @@ returns c =
 speeds-requires : tie.Need-speeds-requires
 speeds-requires c κs = let f = c .before .before .before .before in f .flows .kept .0 ∙ roomy (between f)
 
-same-length-2 : tie.Need-same-length-2
-same-length-2 c = search needs
-
 returns-2 : tie.Need-returns-2
 returns-2 c =
     let f = c .before .before .before .before .before in
@@ -91,12 +82,4 @@ returns-2 c =
 pub velocities-spec : {M : Type 1} → statement M
 velocities-spec =
     tie.close
-    (tie.spec
-    slopes-requires
-    flows-requires
-    accept-requires
-    same-length
-    returns
-    speeds-requires
-    same-length-2
-    returns-2)
+    (tie.spec slopes-requires flows-requires (λ c κs. search needs) (λ c. search needs) returns speeds-requires (λ c. search needs) returns-2)

@@ -6,15 +6,6 @@ use borrow.Author.Needs.{needs}
 use Rattle.saves.proofs.loading.bound.Statement.{statement}
 use Rattle.saves.proofs.loading.bound.Tie as tie
 
-node-at-requires : tie.Need-node-at-requires
-node-at-requires c κs = search needs
-
-in-bounds-requires : tie.Need-in-bounds-requires
-in-bounds-requires c κs = search needs
-
-tested-requires : tie.Need-tested-requires
-tested-requires c κs = search needs
-
 returns : tie.Need-returns
 returns c =
     let b = c .before in
@@ -22,4 +13,4 @@ returns c =
     c .tested .ensures ∙ ap (λ (b : Bool). row b 10 (a .i)) (b .in-bounds .ensures ∙ ap inBounds (b .before .node-at .ensures))
 
 pub bound-spec : {M : Type 1} → statement M
-bound-spec = tie.close (tie.spec node-at-requires in-bounds-requires tested-requires returns)
+bound-spec = tie.close (tie.spec (λ c κs. search needs) (λ c κs. search needs) (λ c κs. search needs) returns)

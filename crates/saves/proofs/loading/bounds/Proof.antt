@@ -20,26 +20,14 @@ abbrev μ-loop : tie.MeasureT-loop
 loop-holds : tie.Need-loop-holds Inv-loop μ-loop
 loop-holds c = (search needs, below-none _)
 
-bound-requires : tie.Need-bound-requires Inv-loop μ-loop
-bound-requires c κs = search needs
-
 returns : tie.Need-returns Inv-loop μ-loop
 returns c =
     let l = c .before .before .before .before in
     let e = c .before .before .bound .ensures in
     e ∙ sym (scan-hit _ _ _ (c .before .before .before .loop-test .taken) (l .loop .inv .1) (other-number e (c .if1 .taken)))
 
-add-i : tie.Need-add-i Inv-loop μ-loop
-add-i c = search needs
-
-loop-less : tie.Need-loop-less Inv-loop μ-loop
-loop-less c = search needs
-
 loop-again : tie.Need-loop-again Inv-loop μ-loop
 loop-again c = (search needs, below-more _ _ (c .before .before .before .before .loop .inv .1) (same-number (c .before .before .bound .ensures) (c .if1 .left)))
-
-accept-requires : tie.Need-accept-requires Inv-loop μ-loop
-accept-requires c κs = search needs
 
 returns-2 : tie.Need-returns-2 Inv-loop μ-loop
 returns-2 c = c .accept .ensures ∙ sym (scan-none _ _ (λ k h. c .before .before .loop .inv .1 k (omega arith)))
@@ -47,14 +35,5 @@ returns-2 c = c .accept .ensures ∙ sym (scan-none _ _ (λ k h. c .before .befo
 pub bounds-spec : {M : Type 1} → statement M
 bounds-spec =
     tie.close
-    (tie.spec
-    Inv-loop
-    μ-loop
-    loop-holds
-    bound-requires
-    returns
-    add-i
-    loop-less
-    loop-again
-    accept-requires
+    (tie.spec Inv-loop μ-loop loop-holds (λ c κs. search needs) returns (λ c. search needs) (λ c. search needs) loop-again (λ c κs. search needs)
     returns-2)

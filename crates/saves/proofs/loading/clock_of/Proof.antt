@@ -9,29 +9,8 @@ use borrow.Author.Needs.{needs}
 use Rattle.saves.proofs.loading.clock_of.Statement.{statement}
 use Rattle.saves.proofs.loading.clock_of.Tie as tie
 
-standing-requires : tie.Need-standing-requires
-standing-requires c κs = search needs
-
-sub-head : tie.Need-sub-head
-sub-head c = search needs
-
-part-head-start : tie.Need-part-head-start
-part-head-start c = search needs
-
-part-head-end : tie.Need-part-head-end
-part-head-end c = search needs
-
-value-requires : tie.Need-value-requires
-value-requires c κs = search needs
-
 cast-t11 : tie.Need-cast-t11
 cast-t11 c = omega (arith, step-small _ (c .value .ensures))
-
-float-at-requires : tie.Need-float-at-requires
-float-at-requires c κs = search needs
-
-float-at-requires-2 : tie.Need-float-at-requires-2
-float-at-requires-2 c κs = search needs
 
 returns : tie.Need-returns
 unfolding clockOf
@@ -48,13 +27,5 @@ returns c =
 pub clock-of-spec : {M : Type 1} → statement M
 clock-of-spec =
     tie.close
-    (tie.spec
-    standing-requires
-    sub-head
-    part-head-start
-    part-head-end
-    value-requires
-    cast-t11
-    float-at-requires
-    float-at-requires-2
-    returns)
+    (tie.spec (λ c κs. search needs) (λ c. search needs) (λ c. search needs) (λ c. search needs) (λ c κs. search needs) cast-t11
+    (λ c κs. search needs) (λ c κs. search needs) returns)

@@ -18,21 +18,12 @@ loop-holds c =
     let s = c .before .before .before in
     (omega arith, filled-none (s .args .h .now) (s .args .text .now) (s .args .state .now) (s .pre .1))
 
-node-at-requires : tie.Need-node-at-requires Inv-loop μ-loop
-node-at-requires c κs = search needs
-
 put-node-requires : tie.Need-put-node-requires Inv-loop μ-loop
 put-node-requires c κs =
     let t = c .before .before in
     let p = t .before in
     let s = p .before .before .before .before in
     (t .loop-test .taken, ap length (p .loop .inv .1) ∙ filled-long (s .args .h .now) (s .args .text .now) (s .args .state .now) (s .pre .1) (p .loop .i) (p .loop .inv .0))
-
-add-i : tie.Need-add-i Inv-loop μ-loop
-add-i c = omega arith
-
-loop-less : tie.Need-loop-less Inv-loop μ-loop
-loop-less c = omega arith
 
 loop-again : tie.Need-loop-again Inv-loop μ-loop
 loop-again c =
@@ -63,14 +54,4 @@ returns c =
 pub fill-spec : {M : Type 1} → statement M
 fill-spec =
     tie.close
-    (tie.spec
-    Inv-loop
-    μ-loop
-    loop-holds
-    node-at-requires
-    put-node-requires
-    add-i
-    loop-less
-    loop-again
-    same-length
-    returns)
+    (tie.spec Inv-loop μ-loop loop-holds (λ c κs. search needs) put-node-requires (λ c. omega arith) (λ c. omega arith) loop-again same-length returns)

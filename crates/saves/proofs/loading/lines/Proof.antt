@@ -15,14 +15,8 @@ Inv-loop n e text count j₀ j = (j ≤ count) × ((k : ℕ) → k < j → lineR
 abbrev μ-loop : tie.MeasureT-loop
 μ-loop n e text count j₀ j = count - j
 
-add-count : tie.Need-add-count Inv-loop μ-loop
-add-count c = omega arith
-
 loop-holds : tie.Need-loop-holds Inv-loop μ-loop
 loop-holds c = (search needs, below-none _)
-
-line-row-requires : tie.Need-line-row-requires Inv-loop μ-loop
-line-row-requires c κs = search needs
 
 returns : tie.Need-returns Inv-loop μ-loop
 returns c =
@@ -30,17 +24,8 @@ returns c =
     let e = c .before .before .line-row .ensures in
     e ∙ sym (scan-hit _ _ _ (c .before .before .before .loop-test .taken) (l .loop .inv .1) (other-number e (c .if1 .taken)))
 
-add-j : tie.Need-add-j Inv-loop μ-loop
-add-j c = search needs
-
-loop-less : tie.Need-loop-less Inv-loop μ-loop
-loop-less c = search needs
-
 loop-again : tie.Need-loop-again Inv-loop μ-loop
 loop-again c = (search needs, below-more _ _ (c .before .before .before .before .loop .inv .1) (same-number (c .before .before .line-row .ensures) (c .if1 .left)))
-
-accept-requires : tie.Need-accept-requires Inv-loop μ-loop
-accept-requires c κs = search needs
 
 returns-2 : tie.Need-returns-2 Inv-loop μ-loop
 returns-2 c = c .accept .ensures ∙ sym (scan-none _ _ (λ k h. c .before .before .loop .inv .1 k (omega arith)))
@@ -48,15 +33,5 @@ returns-2 c = c .accept .ensures ∙ sym (scan-none _ _ (λ k h. c .before .befo
 pub lines-spec : {M : Type 1} → statement M
 lines-spec =
     tie.close
-    (tie.spec
-    Inv-loop
-    μ-loop
-    add-count
-    loop-holds
-    line-row-requires
-    returns
-    add-j
-    loop-less
-    loop-again
-    accept-requires
-    returns-2)
+    (tie.spec Inv-loop μ-loop (λ c. omega arith) loop-holds (λ c κs. search needs) returns (λ c. search needs) (λ c. search needs) loop-again
+    (λ c κs. search needs) returns-2)

@@ -14,54 +14,6 @@ use Rattle.saves.proofs.loading.node_at.Tie as tie
 abbrev its : ℕ → List ℕ → Float
 its k vs = ofBits binary64 (getD vs k 0)
 
-add-standing : tie.Need-add-standing
-add-standing c = search needs
-
-standing-requires : tie.Need-standing-requires
-standing-requires c κs = search needs
-
-sub-values : tie.Need-sub-values
-sub-values c = search needs
-
-part-values-start : tie.Need-part-values-start
-part-values-start c = search needs
-
-part-values-end : tie.Need-part-values-end
-part-values-end c = search needs
-
-values-requires : tie.Need-values-requires
-values-requires c κs = search needs
-
-mul-t9 : tie.Need-mul-t9
-mul-t9 c = search needs
-
-shared-slice-read-t15 : tie.Need-shared-slice-read-t15
-shared-slice-read-t15 c = search needs
-
-array-read-float-of : tie.Need-array-read-float-of
-array-read-float-of c = search needs
-
-float-of-requires : tie.Need-float-of-requires
-float-of-requires c κs = search needs
-
-array-read-float-of-2 : tie.Need-array-read-float-of-2
-array-read-float-of-2 c = search needs
-
-float-of-requires-2 : tie.Need-float-of-requires-2
-float-of-requires-2 c κs = search needs
-
-array-read-float-of-3 : tie.Need-array-read-float-of-3
-array-read-float-of-3 c = search needs
-
-float-of-requires-3 : tie.Need-float-of-requires-3
-float-of-requires-3 c κs = search needs
-
-array-read-float-of-4 : tie.Need-array-read-float-of-4
-array-read-float-of-4 c = search needs
-
-float-of-requires-4 : tie.Need-float-of-requires-4
-float-of-requires-4 c κs = search needs
-
 returns : tie.Need-returns
 unfolding loadedNode values
 returns c =
@@ -84,21 +36,6 @@ returns c =
 pub node-at-spec : {M : Type 1} → statement M
 node-at-spec =
     tie.close
-    (tie.spec
-    add-standing
-    standing-requires
-    sub-values
-    part-values-start
-    part-values-end
-    values-requires
-    mul-t9
-    shared-slice-read-t15
-    array-read-float-of
-    float-of-requires
-    array-read-float-of-2
-    float-of-requires-2
-    array-read-float-of-3
-    float-of-requires-3
-    array-read-float-of-4
-    float-of-requires-4
-    returns)
+    (tie.spec (λ c. search needs) (λ c κs. search needs) (λ c. search needs) (λ c. search needs) (λ c. search needs) (λ c κs. search needs)
+    (λ c. search needs) (λ c. search needs) (λ c. search needs) (λ c κs. search needs) (λ c. search needs) (λ c κs. search needs) (λ c. search needs)
+    (λ c κs. search needs) (λ c. search needs) (λ c κs. search needs) returns)

@@ -13,12 +13,6 @@ its : (c : tie.After-due) → let a = c .before .before .before .args in
     take (c .due .result .digits + 1) (drop (c .before .start .result) (a .text .now)) ≡ lineAt (a .n) (a .text .now) (a .j)
 its c = λ i. take (c .due .ensures .0 i + 1) (drop (c .before .start .ensures i) (c .before .before .before .args .text .now))
 
-start-requires : tie.Need-start-requires
-start-requires c κs = search needs
-
-due-requires : tie.Need-due-requires
-due-requires c κs = search needs
-
 add-to : tie.Need-add-to
 add-to c =
     let d = c .before in
@@ -48,5 +42,4 @@ returns-3 c =
     (omega arith, omega arith, clip-all (d .before .before .before .args .text .now) (d .before .start .result) (d .due .result .digits + 1) ∙ its d)
 
 pub standing-spec : {M : Type 1} → statement M
-standing-spec =
-    tie.close (tie.spec start-requires due-requires add-to add-to-2 returns returns-2 returns-3)
+standing-spec = tie.close (tie.spec (λ c κs. search needs) (λ c κs. search needs) add-to add-to-2 returns returns-2 returns-3)

@@ -8,17 +8,8 @@ use Rattle.saves.proofs.loading.start.Tie as tie
 returns : tie.Need-returns
 returns c = rw (c .if1 .taken) (sym (start-none _))
 
-sub-result : tie.Need-sub-result
-sub-result c = search needs
-
-mul-result : tie.Need-mul-result
-mul-result c = search needs
-
-add-result : tie.Need-add-result
-add-result c = search needs
-
 returns-2 : tie.Need-returns-2
 returns-2 c = let s = c .before in start-is (s .args .n) (s .args .j) (c .if1 .left) (s .pre .1)
 
 pub start-spec : {M : Type 1} → statement M
-start-spec = tie.close (tie.spec returns sub-result mul-result add-result returns-2)
+start-spec = tie.close (tie.spec returns (λ c. search needs) (λ c. search needs) (λ c. search needs) returns-2)

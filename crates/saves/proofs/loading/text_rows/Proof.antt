@@ -7,39 +7,6 @@ use borrow.Author.Needs.{needs}
 use Rattle.saves.proofs.loading.text_rows.Statement.{statement}
 use Rattle.saves.proofs.loading.text_rows.Tie as tie
 
-lines-requires : tie.Need-lines-requires
-lines-requires c κs = search needs
-
-mul-tested : tie.Need-mul-tested
-mul-tested c = search needs
-
-add-tested : tie.Need-add-tested
-add-tested c = search needs
-
-add-tested-2 : tie.Need-add-tested-2
-add-tested-2 c = search needs
-
-tested-requires : tie.Need-tested-requires
-tested-requires c κs = search needs
-
-clock-of-requires : tie.Need-clock-of-requires
-clock-of-requires c κs = search needs
-
-held-wind-requires : tie.Need-held-wind-requires
-held-wind-requires c κs = search needs
-
-bounds-requires : tie.Need-bounds-requires
-bounds-requires c κs = search needs
-
-first-requires : tie.Need-first-requires
-first-requires c κs = search needs
-
-first-requires-2 : tie.Need-first-requires-2
-first-requires-2 c κs = search needs
-
-first-requires-3 : tie.Need-first-requires-3
-first-requires-3 c κs = search needs
-
 returns : tie.Need-returns
 returns c =
     let q = c .before .before .before in
@@ -53,16 +20,5 @@ returns c =
 pub text-rows-spec : {M : Type 1} → statement M
 text-rows-spec =
     tie.close
-    (tie.spec
-    lines-requires
-    mul-tested
-    add-tested
-    add-tested-2
-    tested-requires
-    clock-of-requires
-    held-wind-requires
-    bounds-requires
-    first-requires
-    first-requires-2
-    first-requires-3
-    returns)
+    (tie.spec (λ c κs. search needs) (λ c. search needs) (λ c. search needs) (λ c. search needs) (λ c κs. search needs) (λ c κs. search needs)
+    (λ c κs. search needs) (λ c κs. search needs) (λ c κs. search needs) (λ c κs. search needs) (λ c κs. search needs) returns)

@@ -6,22 +6,10 @@ use borrow.Author.Needs.{needs}
 use Rattle.saves.proofs.writing.end_line.Statement.{statement}
 use Rattle.saves.proofs.writing.end_line.Tie as tie
 
-add-begin : tie.Need-add-begin
-add-begin c = search needs
-
-begin-requires : tie.Need-begin-requires
-begin-requires c κs = search needs
-
-append-requires : tie.Need-append-requires
-append-requires c κs = search needs
-
-seal-requires : tie.Need-seal-requires
-seal-requires c κs = search needs
-
 returns : tie.Need-returns
 unfolding withFields
 returns c =
     rw (c .seal .ensures, c .before .append .ensures, c .before .before .begin .ensures) (built (end (c .before .before .before .args .n)) (lit< tt))
 
 pub end-line-spec : {M : Type 1} → statement M
-end-line-spec = tie.close (tie.spec add-begin begin-requires append-requires seal-requires returns)
+end-line-spec = tie.close (tie.spec (λ c. search needs) (λ c κs. search needs) (λ c κs. search needs) (λ c κs. search needs) returns)

@@ -6,36 +6,6 @@ use borrow.Author.Needs.{needs}
 use Rattle.saves.proofs.writing.head_line.Statement.{statement}
 use Rattle.saves.proofs.writing.head_line.Tie as tie
 
-begin-requires : tie.Need-begin-requires
-begin-requires c κs = search needs
-
-append-requires : tie.Need-append-requires
-append-requires c κs = search needs
-
-append-requires-2 : tie.Need-append-requires-2
-append-requires-2 c κs = search needs
-
-cast-append : tie.Need-cast-append
-cast-append c = search needs
-
-append-requires-3 : tie.Need-append-requires-3
-append-requires-3 c κs = search needs
-
-pattern-of-requires : tie.Need-pattern-of-requires
-pattern-of-requires c κs = search needs
-
-append-requires-4 : tie.Need-append-requires-4
-append-requires-4 c κs = search needs
-
-pattern-of-requires-2 : tie.Need-pattern-of-requires-2
-pattern-of-requires-2 c κs = search needs
-
-append-requires-5 : tie.Need-append-requires-5
-append-requires-5 c κs = search needs
-
-seal-requires : tie.Need-seal-requires
-seal-requires c κs = search needs
-
 returns : tie.Need-returns
 unfolding withFields
 returns c =
@@ -58,15 +28,5 @@ returns c =
 pub head-line-spec : {M : Type 1} → statement M
 head-line-spec =
     tie.close
-    (tie.spec
-    begin-requires
-    append-requires
-    append-requires-2
-    cast-append
-    append-requires-3
-    pattern-of-requires
-    append-requires-4
-    pattern-of-requires-2
-    append-requires-5
-    seal-requires
-    returns)
+    (tie.spec (λ c κs. search needs) (λ c κs. search needs) (λ c κs. search needs) (λ c. search needs) (λ c κs. search needs) (λ c κs. search needs)
+    (λ c κs. search needs) (λ c κs. search needs) (λ c κs. search needs) (λ c κs. search needs) returns)

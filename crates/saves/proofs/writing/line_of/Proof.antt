@@ -8,21 +8,9 @@ use borrow.Author.Needs.{needs}
 use Rattle.saves.proofs.writing.line_of.Statement.{statement}
 use Rattle.saves.proofs.writing.line_of.Tie as tie
 
-head-line-requires : tie.Need-head-line-requires
-head-line-requires c κs = search needs
-
 returns : tie.Need-returns
 unfolding lineOf
 returns c = rw (c .before .if1 .taken) (c .head-line .ensures)
-
-sub-node-line : tie.Need-sub-node-line
-sub-node-line c = search needs
-
-node-line-requires : tie.Need-node-line-requires
-node-line-requires c κs = search needs
-
-end-line-requires : tie.Need-end-line-requires
-end-line-requires c κs = search needs
 
 returns-2 : tie.Need-returns-2
 returns-2 c =
@@ -37,11 +25,4 @@ returns-3 c =
 pub line-of-spec : {M : Type 1} → statement M
 line-of-spec =
     tie.close
-    (tie.spec
-    head-line-requires
-    returns
-    sub-node-line
-    node-line-requires
-    end-line-requires
-    returns-2
-    returns-3)
+    (tie.spec (λ c κs. search needs) returns (λ c. search needs) (λ c κs. search needs) (λ c κs. search needs) returns-2 returns-3)

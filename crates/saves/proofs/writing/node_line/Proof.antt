@@ -13,78 +13,6 @@ use borrow.Author.Needs.{needs}
 use Rattle.saves.proofs.writing.node_line.Statement.{statement}
 use Rattle.saves.proofs.writing.node_line.Tie as tie
 
-add-begin : tie.Need-add-begin
-add-begin c = search needs
-
-begin-requires : tie.Need-begin-requires
-begin-requires c κs = search needs
-
-mul-pattern-of : tie.Need-mul-pattern-of
-mul-pattern-of c = search needs
-
-shared-slice-read-pattern-of : tie.Need-shared-slice-read-pattern-of
-shared-slice-read-pattern-of c = search needs
-
-pattern-of-requires : tie.Need-pattern-of-requires
-pattern-of-requires c κs = search needs
-
-append-requires : tie.Need-append-requires
-append-requires c κs = search needs
-
-add-pattern-of : tie.Need-add-pattern-of
-add-pattern-of c = search needs
-
-mul-pattern-of-2 : tie.Need-mul-pattern-of-2
-mul-pattern-of-2 c = search needs
-
-shared-slice-read-pattern-of-2 : tie.Need-shared-slice-read-pattern-of-2
-shared-slice-read-pattern-of-2 c = search needs
-
-pattern-of-requires-2 : tie.Need-pattern-of-requires-2
-pattern-of-requires-2 c κs = search needs
-
-append-requires-2 : tie.Need-append-requires-2
-append-requires-2 c κs = search needs
-
-mul-pattern-of-3 : tie.Need-mul-pattern-of-3
-mul-pattern-of-3 c = search needs
-
-add-pattern-of-2 : tie.Need-add-pattern-of-2
-add-pattern-of-2 c = search needs
-
-mul-pattern-of-4 : tie.Need-mul-pattern-of-4
-mul-pattern-of-4 c = search needs
-
-shared-slice-read-pattern-of-3 : tie.Need-shared-slice-read-pattern-of-3
-shared-slice-read-pattern-of-3 c = search needs
-
-pattern-of-requires-3 : tie.Need-pattern-of-requires-3
-pattern-of-requires-3 c κs = search needs
-
-append-requires-3 : tie.Need-append-requires-3
-append-requires-3 c κs = search needs
-
-mul-pattern-of-5 : tie.Need-mul-pattern-of-5
-mul-pattern-of-5 c = search needs
-
-add-pattern-of-3 : tie.Need-add-pattern-of-3
-add-pattern-of-3 c = search needs
-
-mul-pattern-of-6 : tie.Need-mul-pattern-of-6
-mul-pattern-of-6 c = search needs
-
-shared-slice-read-pattern-of-4 : tie.Need-shared-slice-read-pattern-of-4
-shared-slice-read-pattern-of-4 c = search needs
-
-pattern-of-requires-4 : tie.Need-pattern-of-requires-4
-pattern-of-requires-4 c κs = search needs
-
-append-requires-4 : tie.Need-append-requires-4
-append-requires-4 c κs = search needs
-
-seal-requires : tie.Need-seal-requires
-seal-requires c κs = search needs
-
 returns : tie.Need-returns
 unfolding withFields
 returns c =
@@ -114,29 +42,7 @@ returns c =
 pub node-line-spec : {M : Type 1} → statement M
 node-line-spec =
     tie.close
-    (tie.spec
-    add-begin
-    begin-requires
-    mul-pattern-of
-    shared-slice-read-pattern-of
-    pattern-of-requires
-    append-requires
-    add-pattern-of
-    mul-pattern-of-2
-    shared-slice-read-pattern-of-2
-    pattern-of-requires-2
-    append-requires-2
-    mul-pattern-of-3
-    add-pattern-of-2
-    mul-pattern-of-4
-    shared-slice-read-pattern-of-3
-    pattern-of-requires-3
-    append-requires-3
-    mul-pattern-of-5
-    add-pattern-of-3
-    mul-pattern-of-6
-    shared-slice-read-pattern-of-4
-    pattern-of-requires-4
-    append-requires-4
-    seal-requires
-    returns)
+    (tie.spec (λ c. search needs) (λ c κs. search needs) (λ c. search needs) (λ c. search needs) (λ c κs. search needs) (λ c κs. search needs)
+    (λ c. search needs) (λ c. search needs) (λ c. search needs) (λ c κs. search needs) (λ c κs. search needs) (λ c. search needs) (λ c. search needs)
+    (λ c. search needs) (λ c. search needs) (λ c κs. search needs) (λ c κs. search needs) (λ c. search needs) (λ c. search needs) (λ c. search needs)
+    (λ c. search needs) (λ c κs. search needs) (λ c κs. search needs) (λ c κs. search needs) returns)

@@ -14,25 +14,10 @@ Inv-loop text₀ n e state clock count at₀ j₀ text at j =
 abbrev μ-loop : tie.MeasureT-loop
 μ-loop text₀ n e state clock count at₀ j₀ text at j = count - j
 
-add-count : tie.Need-add-count Inv-loop μ-loop
-add-count c = omega arith
-
 loop-holds : tie.Need-loop-holds Inv-loop μ-loop
 loop-holds c =
     let a = c .before .before .args in
     (omega arith, reached-none (a .n) (a .e) (a .state .now) (a .clock), so-far-none (a .n) (a .e) (a .state .now) (a .clock) (a .text .now))
-
-line-of-requires : tie.Need-line-of-requires Inv-loop μ-loop
-line-of-requires c κs = search needs
-
-put-requires : tie.Need-put-requires Inv-loop μ-loop
-put-requires c κs = search needs
-
-add-j : tie.Need-add-j Inv-loop μ-loop
-add-j c = omega arith
-
-loop-less : tie.Need-loop-less Inv-loop μ-loop
-loop-less c = omega arith
 
 loop-again : tie.Need-loop-again Inv-loop μ-loop
 loop-again c =
@@ -59,15 +44,5 @@ returns c =
 pub write-spec : {M : Type 1} → statement M
 write-spec =
     tie.close
-    (tie.spec
-    Inv-loop
-    μ-loop
-    add-count
-    loop-holds
-    line-of-requires
-    put-requires
-    add-j
-    loop-less
-    loop-again
-    same-length
-    returns)
+    (tie.spec Inv-loop μ-loop (λ c. omega arith) loop-holds (λ c κs. search needs) (λ c κs. search needs) (λ c. omega arith) (λ c. omega arith)
+    loop-again same-length returns)

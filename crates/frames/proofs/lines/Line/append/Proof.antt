@@ -26,36 +26,6 @@ returns-2 c = let a = c .before .before .args in sym (appended-full (a .self) (d
 loop-holds : tie.Need-loop-holds Inv-loop μ-loop
 loop-holds c = (omega arith, search needs, refl)
 
-sub-left : tie.Need-sub-left Inv-loop μ-loop
-sub-left c = omega arith
-
-cast-byte : tie.Need-cast-byte Inv-loop μ-loop
-cast-byte c = omega arith
-
-mul-place : tie.Need-mul-place Inv-loop μ-loop
-mul-place c = omega arith
-
-add-place : tie.Need-add-place Inv-loop μ-loop
-add-place c = omega arith
-
-digit-requires : tie.Need-digit-requires Inv-loop μ-loop
-digit-requires c κs = omega arith
-
-add-line : tie.Need-add-line Inv-loop μ-loop
-add-line c = omega arith
-
-element-write-line : tie.Need-element-write-line Inv-loop μ-loop
-element-write-line c = omega arith
-
-digit-requires-2 : tie.Need-digit-requires-2 Inv-loop μ-loop
-digit-requires-2 c κs = omega arith
-
-element-write-line-2 : tie.Need-element-write-line-2 Inv-loop μ-loop
-element-write-line-2 c = omega arith
-
-loop-less : tie.Need-loop-less Inv-loop μ-loop
-loop-less c = omega arith
-
 loop-again : tie.Need-loop-again Inv-loop μ-loop
 loop-again c =
     let p = c .before .before .before in
@@ -66,12 +36,6 @@ loop-again c =
       rw (c .digit2 .ensures, c .before .digit .ensures)
           (field-turn (p .loop .line .bytes) (a .self .len) (p .loop .left - 1) (p .loop .rest) (omega arith) ∙ rw (← e) (p .loop .inv .2)),
     )
-
-mul-line : tie.Need-mul-line Inv-loop μ-loop
-mul-line c = omega arith
-
-add-line-2 : tie.Need-add-line-2 Inv-loop μ-loop
-add-line-2 c = omega arith
 
 returns-3 : tie.Need-returns-3 Inv-loop μ-loop
 unfolding field digits
@@ -86,23 +50,6 @@ returns-3 c =
 pub append-spec : {M : Type 1} → statement M
 append-spec =
     tie.close
-    (tie.spec
-    Inv-loop
-    μ-loop
-    returns
-    returns-2
-    loop-holds
-    sub-left
-    cast-byte
-    mul-place
-    add-place
-    digit-requires
-    add-line
-    element-write-line
-    digit-requires-2
-    element-write-line-2
-    loop-less
-    loop-again
-    mul-line
-    add-line-2
-    returns-3)
+    (tie.spec Inv-loop μ-loop returns returns-2 loop-holds (λ c. omega arith) (λ c. omega arith) (λ c. omega arith) (λ c. omega arith)
+    (λ c κs. omega arith) (λ c. omega arith) (λ c. omega arith) (λ c κs. omega arith) (λ c. omega arith) (λ c. omega arith) loop-again
+    (λ c. omega arith) (λ c. omega arith) returns-3)

@@ -12,33 +12,12 @@ use Rattle.frames.proofs.lines.Line.seal.Tie as tie
 returns : tie.Need-returns
 returns c = sym (sealed-full (c .before .args .self) (omega arith))
 
-sub-tallied : tie.Need-sub-tallied
-sub-tallied c = search needs
-
-part-tallied-start : tie.Need-part-tallied-start
-part-tallied-start c = search needs
-
 part-tallied-end : tie.Need-part-tallied-end
 part-tallied-end c = let z : length (c .before .before .before .args .self .bytes) ≡ room = search needs in search needs
-
-tallied-requires : tie.Need-tallied-requires
-tallied-requires c κs = search needs
 
 sub-append : tie.Need-sub-append
 unfolding tallied
 sub-append c = rw (c .before .tallied .ensures) (omega arith)
-
-append-requires : tie.Need-append-requires
-append-requires c κs = search needs
-
-add-line : tie.Need-add-line
-add-line c = search needs
-
-element-write-line : tie.Need-element-write-line
-element-write-line c = search needs
-
-add-line-2 : tie.Need-add-line-2
-add-line-2 c = search needs
 
 returns-2 : tie.Need-returns-2
 unfolding tallied written
@@ -50,15 +29,5 @@ returns-2 c =
 pub seal-spec : {M : Type 1} → statement M
 seal-spec =
     tie.close
-    (tie.spec
-    returns
-    sub-tallied
-    part-tallied-start
-    part-tallied-end
-    tallied-requires
-    sub-append
-    append-requires
-    add-line
-    element-write-line
-    add-line-2
-    returns-2)
+    (tie.spec returns (λ c. search needs) (λ c. search needs) part-tallied-end (λ c κs. search needs) sub-append (λ c κs. search needs)
+    (λ c. search needs) (λ c. search needs) (λ c. search needs) returns-2)
