@@ -1,17 +1,17 @@
--- Laws of `run` and `room`, over run k of any list of runs: what a run is, where it stands, and the room with a run lent as a part and written.
-use Prim.Native.Nat.{ℕ, zero, suc, _+_, _-_, _*_, _/_, _%_, _<_, _≤_}
-use mathlib.Core.Path.{_≡_, refl, sym, ap, subst, _∙_}
+-- Laws of `runsOf`, over run c of any number of runs: how long it is, what is read at a place, and what a run that is written anew makes of it.
+use Prim.Native.Nat.{ℕ, zero, suc, _+_, _*_, _/_, _%_, _<_, _≤_}
+use mathlib.Core.Path.{_≡_, refl, sym, ap, _∙_}
 use mathlib.Core.List.{List, [], _∷_, _++_, append-assoc}
-use native.Mathlib.Nat.{not-suc-le-zero, le-of-suc-le-suc, suc-mul, add-comm, add-assoc, add-zero, zero-mul, one-mul, zero-add, suc-add, div-add-mod, mul-div-right, mul-mod-right}
+use native.Mathlib.Nat.{not-suc-le-zero, le-of-suc-le-suc, suc-mul, add-comm, add-assoc, add-zero, zero-mul, zero-add, suc-add, div-add-mod, mul-div-right, mul-mod-right}
 use native.Mathlib.Omega.{arith}
-use mathlib.Core.Bool.{Bool, true, false, _&&_}
-use borrow.Author.Tests.{eqb-true, eqb-false, eq-eqb, ne-eqb}
-use lib.Dec.{eqb}
+use mathlib.Core.Bool.{Bool, true, false, _&&_, cond}
+use borrow.Author.Tests.{ltb-true, ltb-false, eqb-true, eqb-false, eq-eqb, ne-eqb, lt-ltb, le-ltb}
+use lib.Dec.{eqb, ltb}
 use lib.ListN.{length, getD, set, take, drop, length-append, length-drop, take-append-drop, List·getD-append}
-use lib.Seq.{getD-append-add, set-append-left, take-append-add, take-at, drop-at, drop-drop, length-take-le}
-use borrow.Rule.Slice.PartMut.{midOf, putMid, post-is}
+use lib.Seq.{getD-append-add, set-append-left, take-append-add, drop-at, drop-drop, getD-take, getD-drop, length-take-le}
 use Rattle.lists.specs.Table.{table}
-use Rattle.lists.specs.Runs.{isRuns, run, runs, room, Even}
+use Rattle.lists.specs.Runs.{isRuns, runsOf, withRun}
+use Rattle.lists.proofs.TableLaws.{length-table, getD-table, is-table, table-same, table-join, set-table, putAt}
 
 -- the next run starts n further on
 next : (n k : ℕ) → suc k * n ≡ n + k * n
@@ -20,8 +20,11 @@ next n k = suc-mul k n ∙ add-comm (k * n) n
 place : (n k i : ℕ) → suc k * n + i ≡ n + (k * n + i)
 place n k i = ap (λ (m : ℕ). m + i) (next n k) ∙ add-assoc n (k * n) i
 
-width : (n k : ℕ) → suc k * n - k * n ≡ n
-width n k = omega (arith, next n k)
+-- a place of run c of k lies within the k runs
+pub in-runs : (n c k i : ℕ) → c < k → i < n → c * n + i < k * n
+in-runs n c zero i h l = absurd (not-suc-le-zero h)
+in-runs n zero (suc k) i h l = rw (zero-mul n, next n k) (omega arith)
+in-runs n (suc c) (suc k) i h l = rw (place n c i, next n k) (omega (arith, in-runs n c k i (le-of-suc-le-suc h) l))
 
 positive : (k : ℕ) → (k ≡ 0 → ⊥) → 0 < k
 positive zero h = absurd (h refl)
@@ -43,92 +46,120 @@ runs-test long k n h = go (eqb (long % k) 0) refl (eqb (long / k) n) refl
     go false p b q = sym (ne-eqb long (k * n) (λ e. eqb-false (long % k) 0 p (rw e (mul-mod-right k n))))
 
 module _ {A : Type 0} (n : ℕ) where
-  pub room-length : (rs : List (List A)) → Even n rs → length (room rs) ≡ length rs * n
-  unfolding room
-  room-length [] e = sym (zero-mul n)
-  room-length (r ∷ rs) e = rw (length-append, e .0, room-length rs (e .1), next n (length rs))
+  pub runs-length : (fs : List (ℕ → A)) → length (runsOf n fs) ≡ length fs * n
+  unfolding runsOf
+  runs-length [] = sym (zero-mul n)
+  runs-length (f ∷ fs) = rw (length-append, length-table n f, runs-length fs, next n (length fs))
 
-  past : (r l : List A) (k : ℕ) → length r ≡ n → drop (suc k * n) (r ++ l) ≡ drop (k * n) l
-  past r l k e = rw (next n k, ← drop-drop (k * n) n (r ++ l), drop-at r l n e)
+  -- what stands past the first run
+  past-read : (f : ℕ → A) (l : List A) (j : ℕ) (d : A) → getD (table n f ++ l) (n + j) d ≡ getD l j d
+  past-read f l j d = ap (λ (m : ℕ). getD (table n f ++ l) (m + j) d) (sym (length-table n f)) ∙ getD-append-add (table n f) l j d
 
-  front : (r l : List A) (k : ℕ) → length r ≡ n → take (suc k * n) (r ++ l) ≡ r ++ take (k * n) l
-  front r l k e = ap (λ (m : ℕ). take m (r ++ l)) (next n k ∙ ap (λ (m : ℕ). m + k * n) (sym e)) ∙ take-append-add r l (k * n)
+  -- place i of run c
+  pub run-read : (fs : List (ℕ → A)) (c i : ℕ) (d : A) → c < length fs → i < n → getD (runsOf n fs) (c * n + i) d ≡ getD fs c (λ _. d) i
+  unfolding runsOf
+  run-read [] c i d h l = absurd (not-suc-le-zero h)
+  run-read (f ∷ fs) zero i d h l =
+      rw (zero-mul n, zero-add i) (List·getD-append (table n f) (runsOf n fs) d i (rw (length-table n f) l) ∙ getD-table n f i d l)
+  run-read (f ∷ fs) (suc c) i d h l = rw (place n c i) (past-read f (runsOf n fs) (c * n + i) d ∙ run-read fs c i d (le-of-suc-le-suc h) l)
 
-  -- run k of the room is the k-th of its runs
-  pub run-of : (rs : List (List A)) (k : ℕ) → Even n rs → k < length rs → run n k (room rs) ≡ getD rs k []
-  unfolding room
-  run-of [] k e h = absurd (not-suc-le-zero h)
-  run-of (r ∷ rs) zero e h = rw (zero-mul n) (take-at r (room rs) n (e .0))
-  run-of (r ∷ rs) (suc k) e h = rw (past r (room rs) k (e .0)) (run-of rs k (e .1) (le-of-suc-le-suc h))
+  -- a store at place i of run c
+  past-set : (r l : List A) (j : ℕ) (v : A) → set (r ++ l) (length r + j) v ≡ r ++ set l j v
+  past-set [] l j v = rw (zero-add j)
+  past-set (x ∷ r) l j v = rw (suc-add (length r) j) (ap (λ (t : List A). x ∷ t) (past-set r l j v))
 
-  -- place i of run k
-  further : (r l : List A) (k i : ℕ) (d : A) → length r ≡ n → getD (r ++ l) (suc k * n + i) d ≡ getD l (k * n + i) d
-  further r l k i d e =
-      ap (λ (j : ℕ). getD (r ++ l) j d) (place n k i ∙ ap (λ (m : ℕ). m + (k * n + i)) (sym e))
-      ∙ getD-append-add r l (k * n + i) d
+  pub run-write : (fs : List (ℕ → A)) (c : ℕ) (f : ℕ → A) (i : ℕ) (v : A) → c < length fs → i < n
+      → set (runsOf n (set fs c f)) (c * n + i) v ≡ runsOf n (set fs c (putAt i v f))
+  unfolding runsOf
+  run-write [] c f i v h l = absurd (not-suc-le-zero h)
+  run-write (g ∷ fs) zero f i v h l =
+      rw (zero-mul n, zero-add i, set-append-left (table n f) (runsOf n fs) i v (rw (length-table n f) l), set-table n f i v)
+  run-write (g ∷ fs) (suc c) f i v h l =
+      rw (place n c i)
+      (ap (λ (m : ℕ). set (table n g ++ runsOf n (set fs c f)) (m + (c * n + i)) v) (sym (length-table n g))
+      ∙ past-set (table n g) (runsOf n (set fs c f)) (c * n + i) v
+      ∙ ap (λ (t : List A). table n g ++ t) (run-write fs c f i v (le-of-suc-le-suc h) l))
 
-  pub room-read : (rs : List (List A)) (k i : ℕ) (d : A) → Even n rs → k < length rs → i < n → getD (room rs) (k * n + i) d ≡ getD (getD rs k []) i d
-  unfolding room
-  room-read [] k i d e h p = absurd (not-suc-le-zero h)
-  room-read (r ∷ rs) zero i d e h p = rw (zero-mul n, zero-add i) (List·getD-append r (room rs) d i (rw (e .0) p))
-  room-read (r ∷ rs) (suc k) i d e h p = further r (room rs) k i d (e .0) ∙ room-read rs k i d (e .1) (le-of-suc-le-suc h) p
+  -- a whole run written anew
+  past-drop : (f : ℕ → A) (l : List A) (k : ℕ) → drop (suc k * n) (table n f ++ l) ≡ drop (k * n) l
+  past-drop f l k = rw (next n k, ← drop-drop (k * n) n (table n f ++ l), drop-at (table n f) l n (length-table n f))
 
-  -- a store at place i of run k
-  set-behind : (r l : List A) (j : ℕ) (v : A) → set (r ++ l) (length r + j) v ≡ r ++ set l j v
-  set-behind [] l j v = rw (zero-add j)
-  set-behind (x ∷ r) l j v = rw (suc-add (length r) j) (ap (λ (t : List A). x ∷ t) (set-behind r l j v))
+  front-take : (f : ℕ → A) (l : List A) (k : ℕ) → take (suc k * n) (table n f ++ l) ≡ table n f ++ take (k * n) l
+  front-take f l k =
+      ap (λ (m : ℕ). take m (table n f ++ l)) (next n k ∙ ap (λ (m : ℕ). m + k * n) (sym (length-table n f))) ∙ take-append-add (table n f) l (k * n)
 
-  skip : (r l : List A) (k i : ℕ) (v : A) → length r ≡ n → set (r ++ l) (suc k * n + i) v ≡ r ++ set l (k * n + i) v
-  skip r l k i v e = ap (λ (j : ℕ). set (r ++ l) j v) (place n k i ∙ ap (λ (m : ℕ). m + (k * n + i)) (sym e)) ∙ set-behind r l (k * n + i) v
+  pub run-put : (fs : List (ℕ → A)) (c : ℕ) (f : ℕ → A) → c < length fs → withRun n c f (runsOf n fs) ≡ runsOf n (set fs c f)
+  unfolding runsOf withRun
+  run-put [] c f h = absurd (not-suc-le-zero h)
+  run-put (g ∷ fs) zero f h = rw (zero-mul, past-drop g (runsOf n fs) 0, zero-mul)
+  run-put (g ∷ fs) (suc c) f h =
+      rw (front-take g (runsOf n fs) c, past-drop g (runsOf n fs) (suc c), append-assoc)
+      (ap (λ (t : List A). table n g ++ t) (run-put fs c f (le-of-suc-le-suc h)))
 
-  pub room-set : (rs : List (List A)) (k i : ℕ) (v : A) → Even n rs → k < length rs → i < n
-      → set (room rs) (k * n + i) v ≡ room (set rs k (set (getD rs k []) i v))
-  unfolding room
-  room-set [] k i v e h p = absurd (not-suc-le-zero h)
-  room-set (r ∷ rs) zero i v e h p = rw (zero-mul n, zero-add i) (set-append-left r (room rs) i v (rw (e .0) p))
-  room-set (r ∷ rs) (suc k) i v e h p = skip r (room rs) k i v (e .0) ∙ ap (λ (l : List A). r ++ l) (room-set rs k i v (e .1) (le-of-suc-le-suc h) p)
+  -- runs that agree below n, in one of them
+  pub run-same : (fs : List (ℕ → A)) (c : ℕ) (f g : ℕ → A) → ((i : ℕ) → i < n → f i ≡ g i) → runsOf n (set fs c f) ≡ runsOf n (set fs c g)
+  unfolding runsOf
+  run-same [] c f g h = refl
+  run-same (r ∷ fs) zero f g h = ap (λ (t : List A). t ++ runsOf n fs) (table-same n f g h)
+  run-same (r ∷ fs) (suc c) f g h = ap (λ (t : List A). table n r ++ t) (run-same fs c f g h)
 
-  -- run k lent as a part, and the room with that part written
-  pub lent-run : (rs : List (List A)) (k : ℕ) → Even n rs → k < length rs → midOf (k * n) (suc k * n - k * n) (room rs) ≡ getD rs k []
-  lent-run rs k e h = ap (λ (m : ℕ). take m (drop (k * n) (room rs))) (width n k) ∙ run-of rs k e h
+  -- the same at each place
+  pub runs-alike : (k : ℕ) (v : A) → table (k * n) (λ _. v) ≡ runsOf n (table k (λ _ _. v))
+  unfolding runsOf table
+  runs-alike zero v = rw (zero-mul n)
+  runs-alike (suc k) v = rw (next n k) (sym (table-join n (k * n) v) ∙ ap (λ (t : List A). table n (λ _. v) ++ t) (runs-alike k v))
 
-  put : (rs : List (List A)) (k : ℕ) (r : List A) → Even n rs → k < length rs → take (k * n) (room rs) ++ (r ++ drop (suc k * n) (room rs)) ≡ room (set rs k r)
-  unfolding room
-  put [] k r e h = absurd (not-suc-le-zero h)
-  put (q ∷ rs) zero r e h = rw (zero-mul, one-mul, drop-at q (room rs) n (e .0))
-  put (q ∷ rs) (suc k) r e h =
-      rw (front q (room rs) k (e .0), past q (room rs) (suc k) (e .0), append-assoc)
-      (ap (λ (l : List A). q ++ l) (put rs k r (e .1) (le-of-suc-le-suc h)))
-
-  pub put-run : (rs : List (List A)) (k : ℕ) (r : List A) → Even n rs → k < length rs
-      → putMid (k * n) (suc k * n - k * n) (room rs) r ≡ room (set rs k r)
-  put-run rs k r e h =
-      let le : k * n ≤ suc k * n = omega (arith, next n k) in
-      ap (λ (l : List A). take (k * n) (room rs) ++ (r ++ l)) (post-is (k * n) (suc k * n) (room rs) le) ∙ put rs k r e h
-
-  -- a list of k runs of n is the room of its runs
-  later : (l : List A) → _≡_ {A = ℕ → List A} (λ j. run n (suc j) l) (λ j. run n j (drop n l))
-  later l = λ i j. take n ((ap (λ (m : ℕ). drop m l) (next n j) ∙ sym (drop-drop (j * n) n l)) i)
-
-  rest : (k : ℕ) (l : List A) → length l ≡ suc k * n → length (drop n l) ≡ k * n
-  rest k l e = simp length-drop (omega (arith, next n k))
-
-  pub runs-even : (k : ℕ) (l : List A) → length l ≡ k * n → Even n (runs n k l)
-  unfolding table
-  runs-even zero l e = tt
-  runs-even (suc k) l e = (
-    ap (λ (m : ℕ). length (take n (drop m l))) (zero-mul n) ∙ length-take-le n l (omega (arith, next n k)),
-    subst (λ (f : ℕ → List A). Even n (table k f)) (sym (later l)) (runs-even k (drop n l) (rest k l e)),
-  )
-
+  -- a list of k runs of n
   none : (l : List A) → length l ≡ 0 → l ≡ []
   none [] e = refl
   none (x ∷ l) e = absurd (omega (arith, e))
 
-  pub room-of-runs : (k : ℕ) (l : List A) → length l ≡ k * n → l ≡ room (runs n k l)
-  unfolding table room
-  room-of-runs zero l e = none l (e ∙ zero-mul n)
-  room-of-runs (suc k) l e =
+  pub as-runs : (d : A) (k : ℕ) (l : List A) → length l ≡ k * n → l ≡ runsOf n (table k (λ c i. getD l (c * n + i) d))
+  unfolding runsOf table
+  as-runs d zero l e = none l (e ∙ zero-mul n)
+  as-runs d (suc k) l e =
+      let first : take n l ≡ table n (λ i. getD l (0 * n + i) d) =
+      is-table d n _ (take n l) (length-take-le n l (omega (arith, next n k))) (λ i h. getD-take n l i d h ∙ ap (λ (m : ℕ). getD l m d) (sym (rw (zero-mul n) (zero-add i)))) in
+      let rest : length (drop n l) ≡ k * n = simp length-drop (omega (arith, next n k)) in
       sym (take-append-drop n l)
-      ∙ (λ i. take n (drop (sym (zero-mul n) i) l) ++ room-of-runs k (drop n l) (rest k l e) i)
-      ∙ ap (λ (f : ℕ → List A). run n 0 l ++ room (table k f)) (sym (later l))
+      ∙ (λ j. first j ++ as-runs d k (drop n l) rest j)
+      ∙ ap (λ (g : ℕ → ℕ → A). table n (λ i. getD l (0 * n + i) d) ++ runsOf n (table k g))
+      (λ j c i. (getD-drop n l (c * n + i) d ∙ ap (λ (m : ℕ). getD l m d) (sym (place n c i))) j)
+
+-- ---- a loop that writes the places of a run in turn: the run `old`, written anew by `new` before place i
+abbrev pub turned : {A : Type 0} → ℕ → (ℕ → A) → (ℕ → A) → ℕ → A
+turned i new old k = cond (ltb k i) (new k) (old k)
+
+module _ {A : Type 0} (new old : ℕ → A) where
+  by : (k : ℕ) {a b : Bool} → a ≡ b → cond a (new k) (old k) ≡ cond b (new k) (old k)
+  by k e = ap (λ (t : Bool). cond t (new k) (old k)) e
+
+  pub turn-none : turned 0 new old ≡ old
+  turn-none = λ j k. by k (le-ltb k 0 (omega arith)) j
+
+  -- place i is not yet written
+  pub turn-here : (i : ℕ) → turned i new old i ≡ old i
+  turn-here i = by i (le-ltb i i (omega arith))
+
+  pub turn-more : (i : ℕ) → putAt i (new i) (turned i new old) ≡ turned (i + 1) new old
+  turn-more i = λ j k. at k (eqb k i) refl (ltb k i) refl j
+    where
+      at : (k : ℕ) (a : Bool) → eqb k i ≡ a → (b : Bool) → ltb k i ≡ b → cond a (new i) (cond b (new k) (old k)) ≡ turned (i + 1) new old k
+      at k true e b q = ap new (sym (eqb-true k i e)) ∙ sym (by k (lt-ltb k (i + 1) (omega (arith, eqb-true k i e))))
+      at k false e true q = sym (by k (lt-ltb k (i + 1) (omega (arith, ltb-true k i q))))
+      at k false e false q = sym (by k (le-ltb k (i + 1) (far (eqb-false k i e) (ltb-false k i q))))
+        where
+          far : (k ≡ i → ⊥) → i ≤ k → i + 1 ≤ k
+          far d l = omega arith
+
+  -- every place is written
+  pub turn-all : (n i : ℕ) → i < n → turned n new old i ≡ new i
+  turn-all n i h = by i (lt-ltb i n h)
+
+-- one turn of such a loop, in run c
+pub run-turn : {A : Type 0} (n : ℕ) (fs : List (ℕ → A)) (c : ℕ) (new old : ℕ → A) (i : ℕ) (v : A) → c < length fs → i < n → v ≡ new i
+    → set (runsOf n (set fs c (turned i new old))) (c * n + i) v ≡ runsOf n (set fs c (turned (i + 1) new old))
+run-turn {A = A} n fs c new old i v h l e =
+    ap (λ (w : A). set (runsOf n (set fs c (turned i new old))) (c * n + i) w) e
+    ∙ run-write n fs c (turned i new old) i (new i) h l
+    ∙ ap (λ (f : ℕ → A). runsOf n (set fs c f)) (turn-more new old i)

@@ -1,15 +1,15 @@
 -- Laws of `row`, `_then_`, `scan` and `some`, which the proof of each row cites.
-use Prim.Native.Nat.{ℕ, zero, suc, _+_, _<_}
+use Prim.Native.Nat.{ℕ, zero, suc, _+_, _<_, _≤_}
 use mathlib.Core.Path.{_≡_, refl, sym, ap, _∙_}
-use mathlib.Core.Bool.{Bool, true, false, _||_, _&&_}
+use mathlib.Core.Bool.{Bool, true, false, _||_, _&&_, cond}
 use mathlib.Core.Logic.{⊎-elim}
 use native.Mathlib.Nat.{not-suc-le-zero, le-of-suc-le-suc, eq-or-lt-of-le}
 use native.Mathlib.Numerals.{add-one}
 use native.Mathlib.Omega.{arith}
-use borrow.Author.Tests.{eqb-true}
-use lib.Dec.{eqb}
+use borrow.Author.Tests.{ltb-true, ltb-false, leb-true, leb-false, eqb-true, eqb-false}
+use lib.Dec.{eqb, ltb, leb}
 use Rattle.lists.specs.declared.rows.Answer.{Answer}
-use Rattle.lists.specs.Scan.{accepted, refused, row, _then_, scan, clean, some}
+use Rattle.lists.specs.Scan.{accepted, refused, row, _then_, scan, failedFirst, some}
 
 -- ---- one row
 pub row-holds : {test : Bool} (number place : ℕ) → test ≡ true → row test number place ≡ accepted
@@ -85,24 +85,56 @@ both-right true b e = e
 both-right false true e = refl
 both-right false false e = e
 
--- ---- every place
--- one turn of a loop that asks every place
-pub clean-turn : (f : ℕ → Answer) (n : ℕ) {all : Bool} {a : Answer} → all ≡ clean f n → a ≡ f n → (all && eqb (a .number) 0) ≡ clean f (n + 1)
-unfolding clean
-clean-turn f n e h = (λ i. e i && eqb (h i .number) 0) ∙ rw add-one
+-- ---- a loop that asks every place: `at` is the first place below i at which f refuses, and n where there is none
+abbrev pub Found : (ℕ → Answer) → ℕ → ℕ → ℕ → Type 0
+Found f n i at = (at ≤ n) × (((k : ℕ) → k < i → k < at → f k .number ≡ 0) × (at < n → (at < i) × (f at .number ≡ 0 → ⊥)))
 
--- where every place accepts, each does, and so does the scan
-pub clean-each : (f : ℕ → Answer) (n : ℕ) → clean f n ≡ true → (k : ℕ) → k < n → f k .number ≡ 0
-unfolding clean
-clean-each f zero e k l = absurd (not-suc-le-zero l)
-clean-each f (suc n) e k l =
-    ⊎-elim
-    (λ q. ap (λ (j : ℕ). f j .number) q ∙ eqb-true _ _ (both-right (clean f n) _ e))
-    (λ q. clean-each f n (both-left (clean f n) _ e) k q)
-    (eq-or-lt-of-le (le-of-suc-le-suc l))
+module _ (f : ℕ → Answer) (n : ℕ) where
+  pub found-none : Found f n 0 n
+  found-none = (omega arith, (λ k l _. absurd (not-suc-le-zero l), λ l. absurd (omega arith)))
 
-pub clean-scan : (f : ℕ → Answer) (n : ℕ) → clean f n ≡ true → scan f n ≡ accepted
-clean-scan f n e = scan-none f n (clean-each f n e)
+  kept-before : (i at m : ℕ) → Found f n i at → m ≤ at → m ≤ i → (k : ℕ) → k < i + 1 → k < m → f k .number ≡ 0
+  kept-before i at m v l g k a b = v .1 .0 k (omega arith) (omega arith)
+
+  pub found-more : (i at : ℕ) (holds : Bool) → i < n → holds ≡ eqb (f i .number) 0 → Found f n i at → Found f n (i + 1) (failedFirst n at i holds)
+  unfolding failedFirst
+  found-more i at true l e v = go (ltb n at) refl
+    where
+      go : (b : Bool) → ltb n at ≡ b → Found f n (i + 1) (cond b n at)
+      go true q = absurd (omega (arith, ltb-true n at q, v .0))
+      go false q = (v .0, (here, λ m. (omega (arith, v .1 .1 m .0), v .1 .1 m .1)))
+        where
+          here : (k : ℕ) → k < i + 1 → k < at → f k .number ≡ 0
+          here k a b = ⊎-elim (λ (p : k ≡ i). rw p (eqb-true _ _ (sym e))) (λ p. v .1 .0 k p b) (eq-or-lt-of-le (le-of-suc-le-suc (rw (add-one i) at a)))
+  found-more i at false l e v = go (ltb i at) refl
+    where
+      go : (b : Bool) → ltb i at ≡ b → Found f n (i + 1) (cond b i at)
+      go true q = (omega arith, (kept-before i at i v (omega (arith, ltb-true i at q)) (omega arith), λ m. (omega arith, eqb-false _ _ (sym e))))
+      go false q =
+          let h : at ≤ i = ltb-false i at q in
+          (v .0, (kept-before i at at v (omega arith) h, λ m. (omega arith, v .1 .1 m .1)))
+
+  -- after the last place
+  pub found-one : (at : ℕ) → Found f n n at → at < n → f at ≡ scan f n
+  found-one at v l = sym (scan-hit f n at l (λ k h. v .1 .0 k (omega arith) h) (v .1 .1 l .1))
+
+  pub found-all : (at : ℕ) → Found f n n at → n ≤ at → accepted ≡ scan f n
+  found-all at v l = sym (scan-none f n (λ k h. v .1 .0 k h (omega arith)))
+
+-- a row of one number, asked so
+pub found-row : (test : ℕ → Bool) (number n at : ℕ) → Found (λ i. row (test i) (suc number) i) n n at → row (leb n at) (suc number) at ≡ scan (λ i. row (test i) (suc number) i) n
+unfolding row
+found-row test number n at v = go (leb n at) refl
+  where
+    go : (b : Bool) → leb n at ≡ b → row b (suc number) at ≡ scan (λ i. row (test i) (suc number) i) n
+    go true q = row-holds (suc number) at refl ∙ found-all (λ i. row (test i) (suc number) i) n at v (leb-true n at q)
+    go false q =
+        let l : at < n = leb-false n at q in
+        row-fails (suc number) at refl ∙ sym (refuses (test at) (v .1 .1 l .1)) ∙ found-one (λ i. row (test i) (suc number) i) n at v l
+      where
+        refuses : (t : Bool) → (row t (suc number) at .number ≡ 0 → ⊥) → row t (suc number) at ≡ refused (suc number) at
+        refuses true r = absurd (r refl)
+        refuses false r = refl
 
 -- ---- some place
 or-true : (b : Bool) → (b || true) ≡ true

@@ -6,8 +6,11 @@ use mathlib.Core.Logic.{_⊎_, inl, inr, ⊎-elim}
 use native.Mathlib.Nat.{not-suc-le-zero, le-of-suc-le-suc, zero-add, suc-add}
 use native.Mathlib.Omega.{arith}
 use native.Mathlib.Numerals.{add-one}
-use lib.ListN.{length, getD, set}
-use lib.Seq.{ext-getD, take-length, drop-length}
+use mathlib.Core.Bool.{Bool, true, false, cond}
+use borrow.Author.Tests.{eqb-true, eqb-false}
+use lib.Dec.{eqb}
+use lib.ListN.{length, getD, set, length-set}
+use lib.Seq.{ext-getD, getD-set-same, getD-set-other, take-length, drop-length}
 use Rattle.lists.specs.Table.{table, upTo, copied}
 
 module _ {A : Type 0} where
@@ -26,6 +29,19 @@ module _ {A : Type 0} where
   pub is-table : (d : A) (n : ℕ) (f : ℕ → A) (l : List A) → length l ≡ n → ((i : ℕ) → i < n → getD l i d ≡ f i) → l ≡ table n f
   is-table d n f l e h =
       ext-getD d l (table n f) (e ∙ sym (length-table n f)) (λ i p. h i (rw e at p) ∙ sym (getD-table n f i d (rw e at p)))
+
+  -- one place written anew
+  abbrev pub putAt : ℕ → A → (ℕ → A) → ℕ → A
+  putAt i v f k = cond (eqb k i) v (f k)
+
+  put-at : (n : ℕ) (f : ℕ → A) (i k : ℕ) (v : A) → k < n → (b : Bool) → eqb k i ≡ b → getD (set (table n f) i v) k v ≡ cond b v (f k)
+  put-at n f i k v h true e =
+      ap (λ (m : ℕ). getD (set (table n f) m v) k v) (sym (eqb-true k i e)) ∙ getD-set-same (table n f) k v v (rw (length-table n f) h)
+  put-at n f i k v h false e = getD-set-other (table n f) i k v v (eqb-false k i e) ∙ getD-table n f k v h
+
+  pub set-table : (n : ℕ) (f : ℕ → A) (i : ℕ) (v : A) → set (table n f) i v ≡ table n (putAt i v f)
+  set-table n f i v =
+      is-table v n (putAt i v f) (set (table n f) i v) (length-set (table n f) i v ∙ length-table n f) (λ k h. put-at n f i k v h (eqb k i) refl)
 
   pub table-same : (n : ℕ) (f g : ℕ → A) → ((i : ℕ) → i < n → f i ≡ g i) → table n f ≡ table n g
   unfolding table

@@ -33,6 +33,10 @@ abbrev pub plusIf : {A : Type 0} → Adding A → Bool → A → A → A
 plusIf add true s v = add .plus s v
 plusIf add false s v = s
 
+-- the same corners, m further on: in a run that starts at place m
+abbrev pub past : ℕ → Three ℕ → Three ℕ
+past m c = record { first = m + c .first; second = m + c .second; third = m + c .third }
+
 -- what a triangle with these corners and these values makes of the sum s of node i
 unfoldable pub joined : {A : Type 0} → Adding A → Three ℕ → Three A → ℕ → A → A
 joined add c v i s = plusIf add (eqb i (c .third)) (plusIf add (eqb i (c .second)) (plusIf add (eqb i (c .first)) s (v .first)) (v .second)) (v .third)

@@ -1,3 +1,4 @@
+pub mod Numbers
 pub mod Table
 pub mod Runs
 pub mod Scan

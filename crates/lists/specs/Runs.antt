@@ -1,30 +1,25 @@
--- A slice of k runs of n: the state is four runs of N, the work room three.
-use Prim.Native.Nat.{ℕ, _*_}
-use mathlib.Core.Path.{_≡_}
+-- A slice of k runs of n: "The state is 4N numbers in four runs of N", and a work room likewise.
+use Prim.Native.Nat.{ℕ, suc, _+_, _*_}
 use mathlib.Core.Bool.{Bool}
 use mathlib.Core.List.{List, [], _∷_, _++_}
 use lib.Dec.{eqb}
-use lib.ListN.{length, take, drop}
+use lib.ListN.{getD, take, drop}
+use lib.Ieee.{Float, nan}
 use Rattle.lists.specs.Table.{table}
 
 -- a list of this length is k runs of n
 abbrev pub isRuns : ℕ → ℕ → ℕ → Bool
 isRuns long k n = eqb long (k * n)
 
--- run k, from 0, of a list
-abbrev pub run : {A : Type 0} → ℕ → ℕ → List A → List A
-run n k l = take n (drop (k * n) l)
+-- place i of run k, from 0
+abbrev pub inRun : ℕ → ℕ → List Float → ℕ → Float
+inRun n k l i = getD l (k * n + i) nan
 
--- the first k runs of a list
-abbrev pub runs : {A : Type 0} → ℕ → ℕ → List A → List (List A)
-runs n k l = table k (λ j. run n j l)
+-- runs of n, one after the other, each given by what stands at its places
+unfoldable pub runsOf : {A : Type 0} → ℕ → List (ℕ → A) → List A
+runsOf n [] = []
+runsOf n (f ∷ fs) = table n f ++ runsOf n fs
 
--- the list of these runs, one after the other
-unfoldable pub room : {A : Type 0} → List (List A) → List A
-room [] = []
-room (r ∷ rs) = r ++ room rs
-
--- each run has n places
-abbrev pub Even : {A : Type 0} → ℕ → List (List A) → Type 0
-Even n [] = Unit {0}
-Even n (r ∷ rs) = (length r ≡ n) × Even n rs
+-- a list with run k written anew
+unfoldable pub withRun : {A : Type 0} → ℕ → ℕ → (ℕ → A) → List A → List A
+withRun n k f l = take (k * n) l ++ (table n f ++ drop (suc k * n) l)

@@ -1,13 +1,9 @@
 -- Document 01, "Refusal table": what a row answers, rows in order, and the first place at which a row refuses.
 use Prim.Native.Nat.{ℕ, zero, suc}
-use mathlib.Core.Bool.{Bool, true, false, _||_, _&&_}
-use lib.Dec.{eqb}
-use lib.IntN.{pos}
-use lib.Ieee.{Float, fin, binary64, round, le}
+use mathlib.Core.Bool.{Bool, true, false, _||_, cond}
+use lib.Dec.{ltb}
 use Rattle.lists.specs.declared.rows.Answer.{Answer}
-
-abbrev pub plus0 : Float
-plus0 = fin false 0 (pos 0)
+use Rattle.lists.specs.Numbers.{plus0}
 
 -- "Each answer has number, place and value; the value is +0 except at 13"
 abbrev pub refused : ℕ → ℕ → Answer
@@ -36,23 +32,11 @@ unfoldable pub scan : (ℕ → Answer) → ℕ → Answer
 scan f zero = accepted
 scan f (suc n) = f zero then scan (λ k. f (suc k)) n
 
--- whether every one of n places accepts
-unfoldable pub clean : (ℕ → Answer) → ℕ → Bool
-clean f zero = true
-clean f (suc n) = clean f n && eqb (f n .number) 0
+-- of n places asked in turn, the first that failed its test so far, where it was `at` before place i was asked; n where none did
+unfoldable pub failedFirst : ℕ → ℕ → ℕ → Bool → ℕ
+failedFirst n at i holds = let here = cond holds n i in cond (ltb here at) here at
 
 -- some place below n passes a test
 unfoldable pub some : (ℕ → Bool) → ℕ → Bool
 some test zero = false
 some test (suc n) = some test n || test n
-
--- "A range holds only if both comparisons are true, so a NaN is outside."
-unfoldable pub within : Float → Float → Float → Bool
-within low v high = le low v && le v high
-
--- "every limit written as a decimal is likewise the nearest binary64": n / d, and its negative
-unfoldable pub decimal : ℕ → ℕ → Float
-decimal n d = round binary64 false n d
-
-unfoldable pub minus : ℕ → ℕ → Float
-minus n d = round binary64 true n d

@@ -1,5 +1,5 @@
 use mathlib.Core.Path.{refl}
-use Rattle.lists.specs.Scan.{within}
+use Rattle.lists.specs.Numbers.{within}
 use Rattle.lists.proofs.rows.in_range.Statement.{statement}
 use Rattle.lists.proofs.rows.in_range.Tie as tie
 
