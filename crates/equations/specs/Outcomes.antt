@@ -2,7 +2,8 @@
 use Prim.Native.Nat.{ℕ}
 use mathlib.Core.Bool.{Bool, cond}
 use lib.Ieee.{Float, le}
-use Rattle.lists.specs.Scan.{accepted, within, decimal, minus}
+use Rattle.lists.specs.Scan.{accepted}
+use Rattle.lists.specs.Numbers.{within, decimal, minus}
 use Rattle.lists.specs.declared.rows.Answer.{Answer}
 use Rattle.equations.specs.Operations.{_⊕_}
 use Rattle.equations.specs.Constants.{tenth}
@@ -14,8 +15,8 @@ abbrev pub inSize : ℕ → Float → Bool
 inSize most v = within (minus most 1) v (decimal most 1)
 
 -- "z' beyond 30, H' below 0.1"; "node by node, size, then H'"
-unfoldable pub level : Float → Float → Outcome
-level h z′ =
+unfoldable pub ofRise : Float → Float → Outcome
+ofRise h z′ =
     let H′ = h ⊕ z′ in
     cond (inSize 30 z′) (cond (le tenth H′) (Accepted z′) (Column H′)) (Elevation z′)
 
@@ -23,11 +24,11 @@ level h z′ =
 unfoldable pub speed : Float → Outcome → Outcome
 speed v refusal = cond (inSize 20 v) (Accepted v) refusal
 
-abbrev pub east : Float → Outcome
-east U′ = speed U′ (East U′)
+abbrev pub ofEast : Float → Outcome
+ofEast U′ = speed U′ (East U′)
 
-abbrev pub north : Float → Outcome
-north V′ = speed V′ (North V′)
+abbrev pub ofNorth : Float → Outcome
+ofNorth V′ = speed V′ (North V′)
 
 -- "The offending value comes back with its node: z', H', U' or V'."
 abbrev pub offending : ℕ → Float → Answer

@@ -83,7 +83,7 @@ pub fn lumped(s: f64, dt: f64) -> f64
 }
 
 // z', of L, z, z* and R.
-pub fn risen(run: Parameters, l: f64, z: f64, zs: f64, r: f64) -> f64
+pub fn rise(run: Parameters, l: f64, z: f64, zs: f64, r: f64) -> f64
     ensures { λ x. ⌜ x ≡ z′ run l z zs r ⌝ }
 {
     z + ((l * (1.0 / run.dt - run.tau / 2.0)) * zs + r) / (l * (1.0 / run.dt + run.tau / 2.0))

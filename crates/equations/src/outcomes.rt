@@ -2,11 +2,11 @@
 use super::Outcome;
 use lists::rows;
 ghost use mathlib.Core.Path.{_≡_};
-ghost use Rattle.equations.specs.Outcomes.{level, speed, east, north, answerOf};
+ghost use Rattle.equations.specs.Outcomes.{ofRise, speed, ofEast, ofNorth, answerOf};
 
 // z' in size, then H'.
-pub fn level(h: f64, z: f64) -> Outcome
-    ensures { λ r. ⌜ r ≡ level h z ⌝ }
+pub fn of_rise(h: f64, z: f64) -> Outcome
+    ensures { λ r. ⌜ r ≡ ofRise h z ⌝ }
 {
     if rows::in_range(-30.0, z, 30.0) {
         let column = h + z;
@@ -30,14 +30,14 @@ fn speed(v: f64, refusal: Outcome) -> Outcome
     }
 }
 
-pub fn east(u: f64) -> Outcome
-    ensures { λ r. ⌜ r ≡ east u ⌝ }
+pub fn of_east(u: f64) -> Outcome
+    ensures { λ r. ⌜ r ≡ ofEast u ⌝ }
 {
     speed(u, Outcome::East(u))
 }
 
-pub fn north(v: f64) -> Outcome
-    ensures { λ r. ⌜ r ≡ north v ⌝ }
+pub fn of_north(v: f64) -> Outcome
+    ensures { λ r. ⌜ r ≡ ofNorth v ⌝ }
 {
     speed(v, Outcome::North(v))
 }

@@ -2,8 +2,9 @@
 use mathlib.Core.Path.{_≡_, refl}
 use lib.Ieee.{round, le, lt, eq}
 use Rattle.lists.specs.Table.{table, zeros}
-use Rattle.lists.specs.Scan.{accepted, row, _then_, scan, some, within, decimal, minus}
-use Rattle.limits.specs.Limits.{isSound, row9}
+use Rattle.lists.specs.Scan.{accepted, row, _then_, scan, some}
+use Rattle.lists.specs.Numbers.{within, decimal, minus}
+use Rattle.limits.specs.Limits.{isNode, row9}
 use Rattle.surge.specs.Lent.{coldState, coldClock, after}
 use Rattle.mesh.specs.Geometry.{sides}
 use Rattle.geometry.specs.Geometry.{allNear}
@@ -12,5 +13,5 @@ use Rattle.surge.specs.Open.{openAnswer, openOf}
 use Rattle.forcelog.specs.MeshT.{T, T-parameters}
 
 pub T-opens : openOf T T-parameters (zeros 12) ≡ after (record { answer = accepted; clock = coldClock }) (coldState 3)
-unfolding openOf openAnswer T T-parameters table row _then_ scan some within decimal minus round le lt eq sides allNear row1 row2 allBelow row3 row4 row5 rows3to5 isLeg row6 row6If isNamed row7 isSound row8 row9 rows1to9
+unfolding openOf openAnswer T T-parameters table row _then_ scan some within decimal minus round le lt eq sides allNear row1 row2 allBelow row3 row4 row5 rows3to5 isLeg row6 row6If isNamed row7 isNode row8 row9 rows1to9
 T-opens = refl

@@ -2,7 +2,7 @@
 use mathlib.Core.List.{[], _∷_}
 use lib.IntN.{pos}
 use lib.ListN.{replicate}
-use Rattle.lists.specs.Scan.{decimal}
+use Rattle.lists.specs.Numbers.{decimal}
 use Rattle.equations.specs.declared.Parameters.{Parameters}
 use Rattle.mesh.specs.Lent.{Mesh, mesh}
 

@@ -4,7 +4,8 @@ use mathlib.Core.Bool.{Bool, _&&_, not}
 use lib.Dec.{eqb, leb}
 use lib.Ieee.{Float, le}
 use Rattle.lists.specs.declared.rows.Answer.{Answer}
-use Rattle.lists.specs.Scan.{row, _then_, within, decimal, minus}
+use Rattle.lists.specs.Scan.{row, _then_}
+use Rattle.lists.specs.Numbers.{within, decimal, minus}
 use Rattle.equations.specs.declared.Parameters.{Parameters}
 use Rattle.equations.specs.declared.Node.{Node}
 use Rattle.equations.specs.declared.Wind.{Wind}
@@ -13,8 +14,8 @@ use Rattle.equations.specs.Constants.{tenth}
 use Rattle.equations.specs.Outcomes.{inSize}
 
 -- | 8 | h not 1..12,000, or kind above 2 | node |
-unfoldable pub isSound : Float → ℕ → Bool
-isSound h kind = within (decimal 1 1) h (decimal 12000 1) && leb kind 2
+unfoldable pub isNode : Float → ℕ → Bool
+isNode h kind = within (decimal 1 1) h (decimal 12000 1) && leb kind 2
 
 -- | 9 | dt not 0.125..60, tau not 0..1, K not 0..1, f not -0.001..0.001 | 0..3 |
 unfoldable pub row9 : Parameters → Answer

@@ -5,11 +5,11 @@ use equations::Wind;
 use lists::rows;
 use lists::rows::Answer;
 ghost use mathlib.Core.Path.{_≡_};
-ghost use Rattle.limits.specs.Limits.{isSound, row9, inBounds, row11, row12Held, row12New};
+ghost use Rattle.limits.specs.Limits.{isNode, row9, inBounds, row11, row12Held, row12New};
 
 // Row 8 of one node: its depth and its kind.
-pub fn is_sound(h: f64, kind: u8) -> bool
-    ensures { λ r. ⌜ r ≡ isSound h kind ⌝ }
+pub fn is_node(h: f64, kind: u8) -> bool
+    ensures { λ r. ⌜ r ≡ isNode h kind ⌝ }
 {
     rows::in_range(1.0, h, 12000.0) & (kind <= 2)
 }

@@ -12,14 +12,15 @@ use lib.Signed.{ltZ}
 use lib.ListN.{length, getD}
 use lib.Ieee.{nan}
 use Rattle.lists.specs.Gather.{Below, alike}
-use Rattle.lists.specs.Scan.{_then_, scan, within, decimal}
+use Rattle.lists.specs.Scan.{_then_, scan}
+use Rattle.lists.specs.Numbers.{within, decimal}
 use Rattle.lists.proofs.ScanLaws.{row-passed, then-first, then-rest, then-assoc, scan-clean, both-left, both-right}
 use Rattle.lists.proofs.GatherLaws.{gathered-le}
 use Rattle.equations.specs.declared.Parameters.{Parameters}
 use Rattle.mesh.specs.Lent.{Mesh, N, E, corner, corners}
 use Rattle.mesh.specs.Geometry.{sides, area, S}
 use Rattle.geometry.specs.Geometry.{D, allNear}
-use Rattle.limits.specs.Limits.{isSound, row9}
+use Rattle.limits.specs.Limits.{isNode, row9}
 use Rattle.mesh.specs.Rows.{allBelow, row1, row2, row3, row4, row5, rows3to5, row6If, row7, row8, rows1to9}
 use Rattle.mesh.specs.Accepted.{Sized, Sound, Kept, Ranged, Accepted}
 use Rattle.geometry.proofs.GeometryLaws.{all-small}
@@ -110,7 +111,7 @@ numbers-below m z s j h =
 
 -- ---- rows 7 and 8
 kept : (m : Mesh) (i : ℕ) → row7 (m .tri) i .number ≡ 0 → row8 (m .h) (m .kind) i .number ≡ 0 → Kept m i
-unfolding row7 row8 isSound
+unfolding row7 row8 isNode
 kept m i e f =
     let deep = within (decimal 1 1) (getD (m .h) i nan) (decimal 12000 1) in
     let known = leb (getD (m .kind) i 0) 2 in

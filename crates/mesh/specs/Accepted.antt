@@ -7,7 +7,7 @@ use lib.IntN.{ℤ, pos}
 use lib.ListN.{length, getD}
 use lib.Ieee.{nan}
 use Rattle.lists.specs.Gather.{Below}
-use Rattle.lists.specs.Scan.{within, decimal, minus}
+use Rattle.lists.specs.Numbers.{within, decimal, minus}
 use Rattle.equations.specs.declared.Parameters.{Parameters}
 use Rattle.mesh.specs.Lent.{Mesh, N, E, corners}
 use Rattle.mesh.specs.Geometry.{sides, area, S}

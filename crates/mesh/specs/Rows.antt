@@ -11,7 +11,7 @@ use Rattle.lists.specs.declared.rows.Answer.{Answer}
 use Rattle.lists.specs.Scan.{accepted, row, _then_, scan, some}
 use Rattle.lists.specs.Gather.{Three}
 use Rattle.equations.specs.declared.Parameters.{Parameters}
-use Rattle.limits.specs.Limits.{isSound, row9}
+use Rattle.limits.specs.Limits.{isNode, row9}
 use Rattle.mesh.specs.Lent.{Mesh, N, E, corner, corners}
 use Rattle.mesh.specs.Geometry.{sides}
 use Rattle.geometry.specs.Geometry.{D, allNear}
@@ -73,7 +73,7 @@ row7 tri i = row (isNamed tri i) 7 i
 
 -- | 8 | h not 1..12,000, or kind above 2 | node |
 unfoldable pub row8 : List Float → List ℕ → ℕ → Answer
-row8 h kind i = row (isSound (getD h i nan) (getD kind i 0)) 8 i
+row8 h kind i = row (isNode (getD h i nan) (getD kind i 0)) 8 i
 
 -- "Order: 1, 2, then triangle by triangle 3, 4, 5, then 6, 7, 8, 9, and the first place in each."
 unfoldable pub rows1to9 : Bool → Bool → Mesh → Parameters → Answer

@@ -42,7 +42,7 @@ fn depth(h: &[f64], kind: &[u8], i: usize) -> Answer
     requires { ⌜ (i < length (now h)) × (length (now kind) ≡ length (now h)) ⌝ }
     ensures { λ r. ⌜ r ≡ row8 (now (h .entry)) (now (kind .entry)) i ⌝ }
 {
-    rows::tested(limits::is_sound(h[i], kind[i]), 8, i)
+    rows::tested(limits::is_node(h[i], kind[i]), 8, i)
 }
 
 // Whether row 8 accepts every node. Nothing leaves the loop, so that it can be made in wide registers.

@@ -10,7 +10,7 @@ use lib.ListN.{length, getD, set, List·getD-eq-default}
 use lib.Ieee.{Float, nan}
 use Rattle.lists.specs.Table.{table, upTo}
 use Rattle.lists.specs.Runs.{run, room}
-use Rattle.lists.specs.Scan.{plus0}
+use Rattle.lists.specs.Numbers.{plus0}
 use Rattle.lists.specs.Gather.{Three, alike, whole, gathered, Below, spread}
 use Rattle.lists.proofs.TableLaws.{length-table, getD-table, up-none, up-more, up-length, up-ahead}
 use Rattle.lists.proofs.GatherLaws.{gather-none, gather-more, gathered-le}

@@ -10,7 +10,7 @@ use lib.Seq.{take-at, drop-at, length-take-le}
 use lib.Ieee.{Float}
 use Rattle.lists.specs.Table.{table, zeros}
 use Rattle.lists.specs.Runs.{run, room, Even}
-use Rattle.lists.specs.Scan.{plus0}
+use Rattle.lists.specs.Numbers.{plus0}
 use Rattle.lists.proofs.TableLaws.{length-table, table-join}
 use Rattle.lists.proofs.RunLaws.{room-length, run-of, room-read, room-set, lent-run, put-run, runs-even, room-of-runs}
 

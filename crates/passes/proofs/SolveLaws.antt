@@ -8,18 +8,17 @@ use lib.ListN.{length, getD, drop, length-drop}
 use lib.Seq.{getD-take, getD-drop, length-take-le}
 use lib.Ieee.{Float, nan}
 use Rattle.lists.specs.Table.{table, upTo, zeros}
-use Rattle.lists.specs.Runs.{run, room}
+use Rattle.lists.specs.Runs.{run, room, inRun}
 use Rattle.lists.specs.Scan.{scan}
 use Rattle.lists.proofs.TableLaws.{length-table, getD-table, is-table, table-same, up-all}
 use Rattle.lists.specs.Gather.{alike, Below, gathered}
 use Rattle.lists.proofs.ScanLaws.{scan-same}
 use Rattle.lists.proofs.GatherLaws.{gathered-same}
-use Rattle.equations.specs.Outcomes.{level, answerOf}
+use Rattle.equations.specs.Outcomes.{ofRise, answerOf}
 use Rattle.equations.specs.declared.Flow.{Flow}
 use Rattle.equations.specs.Operations.{_⊕_}
 use Rattle.equations.specs.Elevation.{slope}
 use Rattle.mesh.specs.Lent.{corners}
-use Rattle.bounds.specs.State.{inRun}
 use Rattle.passes.specs.State.{newWind}
 use Rattle.passes.specs.Equations.{count, triangles, node, floating, sidesAt, R, Sums, riseOf, rise, both, slopeX, slopeY, Px, Py, flowOf, pushOf, flowAt, U′, V′, nextState}
 use Rattle.passes.specs.Row13.{speedOf, row13Level, row13Flow}
@@ -45,7 +44,7 @@ module _ (v : Solving) (z : SolvingFits v) where
 
   its-level : (i : ℕ) → i < count (v .sea) → levelIn risen i ≡ row13Level (v .sea) (v .kind) (v .f) i
   unfolding levelIn row13Level
-  its-level i h = ap (λ (x : Float). answerOf (level (node (v .sea) i .h) x) i) (its-rise i h)
+  its-level i h = ap (λ (x : Float). answerOf (ofRise (node (v .sea) i .h) x) i) (its-rise i h)
 
   pub all-rise : table (count (v .sea)) (riseIn risen) ≡ table (count (v .sea)) (rise (v .sea) (v .kind) (v .f))
   all-rise = table-same (count (v .sea)) _ _ its-rise
@@ -58,7 +57,7 @@ module _ (v : Solving) (z : SolvingFits v) where
   unfolding heightAt row13Level
   all-height =
       scan-same _ _ (count (v .sea)) (λ i h.
-      ap (λ (x : Float). answerOf (level (node (v .sea) i .h) x) i) (getD-table (count (v .sea)) (rise (v .sea) (v .kind) (v .f)) i nan h))
+      ap (λ (x : Float). answerOf (ofRise (node (v .sea) i .h) x) i) (getD-table (count (v .sea)) (rise (v .sea) (v .kind) (v .f)) i nan h))
 
   -- ---- from z' to Px and Py
   abbrev pub sloped : Sloping

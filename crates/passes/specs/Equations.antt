@@ -8,7 +8,7 @@ use lib.ListN.{length, getD}
 use lib.Ieee.{Float, binary64, ofInt}
 use Rattle.lists.specs.Table.{table}
 use Rattle.lists.specs.Runs.{room}
-use Rattle.lists.specs.Scan.{plus0}
+use Rattle.lists.specs.Numbers.{plus0}
 use Rattle.lists.specs.Gather.{Three, alike, Adding, gathered}
 use Rattle.equations.specs.declared.Parameters.{Parameters}
 use Rattle.equations.specs.declared.Wind.{Wind}

@@ -7,7 +7,7 @@ use lib.ListN.{length, getD}
 use lib.Ieee.{Float, nan}
 use Rattle.lists.specs.declared.rows.Answer.{Answer}
 use Rattle.lists.specs.Table.{table, zeros, upTo}
-use Rattle.lists.specs.Runs.{run, room}
+use Rattle.lists.specs.Runs.{run, room, inRun}
 use Rattle.lists.specs.Gather.{Three, alike, gathered}
 use Rattle.equations.specs.declared.Parameters.{Parameters}
 use Rattle.equations.specs.declared.Wind.{Wind}
@@ -15,14 +15,14 @@ use Rattle.equations.specs.declared.Flow.{Flow}
 use Rattle.equations.specs.declared.Sides.{Sides}
 use Rattle.equations.specs.Operations.{_⊕_}
 use Rattle.equations.specs.Elevation.{slope}
-use Rattle.equations.specs.Outcomes.{level, answerOf}
+use Rattle.equations.specs.Outcomes.{ofRise, answerOf}
 use Rattle.equations.specs.declared.Forcing.{Forcing}
 use Rattle.passes.specs.declared.velocity.Slope.{Slope}
 use Rattle.mesh.specs.Lent.{corners}
 use Rattle.mesh.specs.Geometry.{sides}
 use Rattle.geometry.specs.Geometry.{floats}
 use Rattle.mesh.specs.Accepted.{Sound}
-use Rattle.bounds.specs.State.{inRun, nodeOf}
+use Rattle.bounds.specs.State.{nodeOf}
 use Rattle.passes.specs.Row13.{speedOf}
 use Rattle.passes.specs.Equations.{Sea, count, triangles, floating, riseOf, flowOf, pushOf, rise, U′, V′}
 
@@ -53,10 +53,10 @@ riseIn w i = riseOf (w .p) (getD (w .kind) i 0) (w .elevation) (nodeOf (w .h) (w
 
 -- row 13 of node i, whose z' stands in a list
 unfoldable pub heightAt : List Float → List Float → ℕ → Answer
-heightAt h z i = answerOf (level (getD h i nan) (getD z i nan)) i
+heightAt h z i = answerOf (ofRise (getD h i nan) (getD z i nan)) i
 
 unfoldable pub levelIn : Rising → ℕ → Answer
-levelIn w i = answerOf (level (getD (w .h) i nan) (riseIn w i)) i
+levelIn w i = answerOf (ofRise (getD (w .h) i nan) (riseIn w i)) i
 
 pub record RisingFits (w : Rising) : Type 0 where
   pub kind : length (w .kind) ≡ length (w .h)

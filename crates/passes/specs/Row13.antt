@@ -5,17 +5,17 @@ use Rattle.lists.specs.declared.rows.Answer.{Answer}
 use Rattle.lists.specs.Scan.{_then_, scan}
 use Rattle.equations.specs.declared.Flow.{Flow}
 use Rattle.equations.specs.declared.Forcing.{Forcing}
-use Rattle.equations.specs.Outcomes.{level, east, north, answerOf}
+use Rattle.equations.specs.Outcomes.{ofRise, ofEast, ofNorth, answerOf}
 use Rattle.passes.specs.Equations.{Sea, count, node, rise, flowAt}
 
 -- | 13 | z' beyond 30, H' below 0.1, U' or V' beyond 20 | node |
 -- "all z' first (node by node, size, then H')"
 unfoldable pub row13Level : Sea → List ℕ → Forcing → ℕ → Answer
-row13Level s kind f i = answerOf (level (node s i .h) (rise s kind f i)) i
+row13Level s kind f i = answerOf (ofRise (node s i .h) (rise s kind f i)) i
 
 -- "then, node by node, U' before V'"
 unfoldable pub speedOf : Flow → ℕ → Answer
-speedOf v i = answerOf (east (v .u)) i then answerOf (north (v .v)) i
+speedOf v i = answerOf (ofEast (v .u)) i then answerOf (ofNorth (v .v)) i
 
 unfoldable pub row13Flow : Sea → List ℕ → Forcing → ℕ → Answer
 row13Flow s kind f i = speedOf (flowAt s kind f i) i

@@ -21,7 +21,7 @@ ghost use Rattle.lists.specs.Table.{table, zeros};
 ghost use Rattle.lists.specs.Scan.{scan, clean};
 ghost use Rattle.lists.specs.Gather.{Below};
 ghost use Rattle.equations.specs.Elevation.{shares};
-ghost use Rattle.equations.specs.Outcomes.{level, answerOf};
+ghost use Rattle.equations.specs.Outcomes.{ofRise, answerOf};
 ghost use Rattle.geometry.specs.Geometry.{nodesOf, sidesAt, nearFloats};
 ghost use Rattle.bounds.specs.State.{nodeOf};
 ghost use Rattle.passes.specs.Equations.{Sea, sea, count, R, Sums, rise, riseOf};
@@ -77,9 +77,9 @@ fn rise_of(p: Parameters, kind: u8, elevation: f64, c: Node, s: u64, r: f64) -> 
 
 // Row 13 of a node's z'.
 fn height(h: f64, z: f64, i: usize) -> Answer
-    ensures { λ a. ⌜ a ≡ answerOf (level h z) i ⌝ }
+    ensures { λ a. ⌜ a ≡ answerOf (ofRise h z) i ⌝ }
 {
-    outcomes::answer(outcomes::level(h, z), i)
+    outcomes::answer(outcomes::ofRise(h, z), i)
 }
 
 // R of every node becomes its z'; whether row 13 accepts every one. Nothing leaves the loop, so that it can be made in wide registers.

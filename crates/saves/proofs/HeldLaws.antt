@@ -12,7 +12,7 @@ use lib.Ieee.Bits.{ofBits-fits}
 use lib.Ieee.Fits.{nan-fits, add-fits, div-fits, cond-fits}
 use Rattle.lists.specs.Table.{table}
 use Rattle.lists.specs.Runs.{room}
-use Rattle.lists.specs.Scan.{plus0}
+use Rattle.lists.specs.Numbers.{plus0}
 use Rattle.lists.proofs.TableLaws.{length-table}
 use Rattle.lists.proofs.RunLaws.{room-length}
 use Rattle.equations.specs.declared.Parameters.{Parameters}

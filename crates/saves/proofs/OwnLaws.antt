@@ -12,7 +12,7 @@ use lib.Seq.{take-at, getD-take, getD-drop, length-take-le}
 use lib.Ieee.{Float, nan}
 use Rattle.lists.specs.declared.rows.Answer.{Answer}
 use Rattle.lists.specs.Table.{table}
-use Rattle.lists.specs.Runs.{run}
+use Rattle.lists.specs.Runs.{run, inRun}
 use Rattle.lists.specs.Scan.{accepted, row}
 use Rattle.lists.proofs.ScanLaws.{row-holds, then-first, then-rest, scan-none, same-number, goes}
 use Rattle.lists.proofs.TableLaws.{length-table, is-table, table-same}
@@ -23,7 +23,7 @@ use Rattle.surge.specs.declared.Clock.{Clock}
 use Rattle.mesh.specs.Lent.{Mesh, N, E}
 use Rattle.surge.specs.Lent.{after}
 use Rattle.limits.specs.Limits.{inBounds, row12Held}
-use Rattle.bounds.specs.State.{inRun, nodeOf, row10, rows1to10}
+use Rattle.bounds.specs.State.{nodeOf, row10, rows1to10}
 use Rattle.surge.specs.State.{windOf}
 use Rattle.mesh.specs.Accepted.{Sized}
 use Rattle.bounds.proofs.StateLaws.{AcceptedRun, accepted-run}

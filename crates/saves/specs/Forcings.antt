@@ -5,7 +5,7 @@ use mathlib.Core.Bool.{cond}
 use mathlib.Core.List.{List}
 use lib.Dec.{eqb}
 use Rattle.lists.specs.declared.rows.Answer.{Answer}
-use Rattle.lists.specs.Scan.{plus0}
+use Rattle.lists.specs.Numbers.{plus0}
 use Rattle.frames.specs.Frames.{digitsOf, byteOf}
 use Rattle.frames.specs.Reading.{fault}
 use Rattle.equations.specs.declared.Forcing.{Forcing}

@@ -6,7 +6,7 @@ use lib.Dec.{ltb}
 use lib.Ieee.{Float, binary64, toBits}
 use Rattle.frames.specs.Frames.{Field, Frame, wide, digitsOf}
 use Rattle.surge.specs.declared.Clock.{Clock}
-use Rattle.bounds.specs.State.{inRun}
+use Rattle.lists.specs.Runs.{inRun}
 
 -- "floats are their 8-byte patterns"
 abbrev pub bits : Float → ℕ

@@ -6,7 +6,8 @@ use lib.Dec.{eqb, leb, ltb}
 use lib.ListN.{length, drop}
 use lib.Ieee.{Float}
 use Rattle.lists.specs.declared.rows.Answer.{Answer}
-use Rattle.lists.specs.Scan.{plus0, row, _then_}
+use Rattle.lists.specs.Numbers.{plus0}
+use Rattle.lists.specs.Scan.{row, _then_}
 use Rattle.equations.specs.declared.Parameters.{Parameters}
 use Rattle.frames.specs.Frames.{Frame, text}
 use Rattle.surge.specs.declared.Clock.{Clock}

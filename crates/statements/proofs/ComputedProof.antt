@@ -10,7 +10,8 @@ use lib.ListN.{getD}
 use lib.Ieee.{Float, fin, nan}
 use Rattle.lists.specs.declared.rows.Answer.{Answer}
 use Rattle.lists.specs.Table.{table}
-use Rattle.lists.specs.Scan.{plus0, accepted, refused, decimal}
+use Rattle.lists.specs.Numbers.{plus0, decimal}
+use Rattle.lists.specs.Scan.{accepted, refused}
 use Rattle.surge.specs.Lent.{After}
 use Rattle.surge.specs.Open.{openOf}
 use Rattle.surge.specs.Step.{Held, StepOut, given, stepOf, stepOut}

@@ -2,15 +2,16 @@
 use lib.Ieee.{le, lt, eq, round, toBits, ofBits, add, sub, mul, div, neg, ofInt}
 use Rattle.lists.specs.Table.{table}
 use Rattle.lists.specs.Runs.{room}
-use Rattle.lists.specs.Scan.{row, _then_, scan, some, within, decimal, minus}
+use Rattle.lists.specs.Scan.{row, _then_, scan, some}
+use Rattle.lists.specs.Numbers.{within, decimal, minus}
 use Rattle.lists.specs.Gather.{joined, gathered}
 use Rattle.equations.specs.Elevation.{z*, H as Hi, qx, qy, mean, slope, means, Jx, Jy, corner, shares, L, z′}
 use Rattle.equations.specs.Velocity.{H, H′, r, p, m, q, gx, gy, wx, wy, Rx, Ry, n, U′, V′, flow}
-use Rattle.equations.specs.Outcomes.{level, speed}
+use Rattle.equations.specs.Outcomes.{ofRise, speed}
 use Rattle.frames.specs.Bytes.{digit, digits, byte, bytes, worth, allDigits, field, number, sum, check}
 use Rattle.frames.specs.Frames.{text, fieldBytes, checked}
 use Rattle.frames.specs.Reading.{value, isFramed, row20, row21, row22, fault}
-use Rattle.limits.specs.Limits.{isSound, row9, inBounds, row11, row12Held, row12New}
+use Rattle.limits.specs.Limits.{isNode, row9, inBounds, row11, row12Held, row12New}
 use Rattle.mesh.specs.Geometry.{sides, area}
 use Rattle.geometry.specs.Geometry.{allNear, floats}
 use Rattle.mesh.specs.Rows.{row1, row2, allBelow, row3, row4, row5, rows3to5, isLeg, row6, row6If, isNamed, row7, row8, rows1to9}
@@ -32,11 +33,11 @@ unfolding table room row _then_ scan some joined gathered
 tables = tt
 
 unfoldable pub the-rows : Unit {0}
-unfolding sides allNear row1 row2 allBelow row3 row4 row5 rows3to5 isLeg row6 row6If isNamed row7 isSound row8 row9 rows1to9 inBounds row10 rows1to10 row11 row12Held row12New
+unfolding sides allNear row1 row2 allBelow row3 row4 row5 rows3to5 isLeg row6 row6If isNamed row7 isNode row8 row9 rows1to9 inBounds row10 rows1to10 row11 row12Held row12New
 the-rows = tt
 
 unfoldable pub the-formulas : Unit {0}
-unfolding z* Hi qx qy mean slope means Jx Jy corner shares L z′ H H′ r p m q gx gy wx wy Rx Ry n U′ V′ flow level speed
+unfolding z* Hi qx qy mean slope means Jx Jy corner shares L z′ H H′ r p m q gx gy wx wy Rx Ry n U′ V′ flow ofRise speed
 the-formulas = tt
 
 unfoldable pub the-equations : Unit {0}

@@ -15,8 +15,7 @@ use Rattle.passes.specs.Settle.{Rooms, roomy}
 use Rattle.saves.specs.Save.{saveOf}
 use Rattle.saves.specs.Load.{loadOf}
 use Rattle.saves.specs.Forcings.{takenOf}
-use Rattle.statements.specs.Demand1.{Accepts, Refuses, OpenSays, StepSays, SaveSays, LoadSays, ForcingSays}
-use Rattle.statements.specs.Demand1.{OpenKeepsDemand1, StepKeepsDemand1, SaveKeepsDemand1, LoadKeepsDemand1, ForcingKeepsDemand1}
+use Rattle.statements.specs.Demand1.{Accepts, Refuses, OpenSays, StepSays, SaveSays, LoadSays, ForcingSays, OpenKeepsDemand1, StepKeepsDemand1, SaveKeepsDemand1, LoadKeepsDemand1, ForcingKeepsDemand1}
 use Rattle.surge.proofs.NumberLaws.{before-13, only-13}
 use Rattle.surge.proofs.KeptLaws.{early, late, step-cases}
 use Rattle.saves.proofs.KeptLaws.{load-cases}

@@ -10,7 +10,8 @@ use lib.Ieee.{binary64, fits, nan}
 use lib.Ieee.Fits.{round-fits}
 use Rattle.lists.specs.declared.rows.Answer.{Answer}
 use Rattle.lists.specs.Table.{table}
-use Rattle.lists.specs.Scan.{accepted, refused, decimal}
+use Rattle.lists.specs.Scan.{accepted, refused}
+use Rattle.lists.specs.Numbers.{decimal}
 use Rattle.surge.specs.Open.{openOf}
 use Rattle.surge.specs.Step.{Held, given, stepOf}
 use Rattle.saves.specs.Lines.{bits}

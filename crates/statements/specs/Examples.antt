@@ -6,7 +6,8 @@ use lib.IntN.{ℤ, pos, negsuc}
 use lib.ListN.{length, replicate}
 use Rattle.lists.specs.declared.rows.Answer.{Answer}
 use Rattle.lists.specs.Table.{table, zeros}
-use Rattle.lists.specs.Scan.{plus0, accepted, refused, decimal}
+use Rattle.lists.specs.Numbers.{plus0, decimal}
+use Rattle.lists.specs.Scan.{accepted, refused}
 use Rattle.equations.specs.declared.Parameters.{Parameters}
 use Rattle.geometry.specs.declared.WholeSides.{WholeSides}
 use Rattle.frames.specs.Bytes.{bytes, sum}

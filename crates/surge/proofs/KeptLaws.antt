@@ -16,8 +16,9 @@ use lib.Ieee.Order.{round-mono}
 use lib.Ieee.Positive.{positive, le→cross, between}
 use Rattle.lists.specs.declared.rows.Answer.{Answer}
 use Rattle.lists.specs.Table.{table}
-use Rattle.lists.specs.Runs.{room, Even}
-use Rattle.lists.specs.Scan.{plus0, row, within, decimal, minus}
+use Rattle.lists.specs.Runs.{room, Even, inRun}
+use Rattle.lists.specs.Numbers.{plus0, within, decimal, minus}
+use Rattle.lists.specs.Scan.{row}
 use Rattle.lists.proofs.ScanLaws.{row-holds, row-passed, then-next, then-first, then-rest, scan-none, scan-clean, both-left, both-right}
 use Rattle.lists.proofs.TableLaws.{length-table, getD-table}
 use Rattle.lists.proofs.RunLaws.{room-length, room-read}
@@ -27,13 +28,13 @@ use Rattle.equations.specs.declared.Outcome.{Outcome}
 use Rattle.equations.specs.declared.Outcome.the-variants.{Accepted as Fine, Elevation, Column}
 use Rattle.equations.specs.Operations.{_⊕_}
 use Rattle.equations.specs.Constants.{tenth}
-use Rattle.equations.specs.Outcomes.{inSize, level, speed, answerOf}
+use Rattle.equations.specs.Outcomes.{inSize, ofRise, speed, answerOf}
 use Rattle.equations.specs.declared.Forcing.{Forcing}
 use Rattle.mesh.specs.Lent.{Mesh, N}
 use Rattle.surge.specs.Lent.{coldState, coldClock}
 use Rattle.mesh.specs.Rows.{row1, row6If, rows1to9}
 use Rattle.limits.specs.Limits.{inBounds, row12Held, row12New}
-use Rattle.bounds.specs.State.{inRun, nodeOf, row10, rows1to10}
+use Rattle.bounds.specs.State.{nodeOf, row10, rows1to10}
 use Rattle.surge.specs.State.{windOf}
 use Rattle.passes.specs.Equations.{Sea, count, node, rise, flowAt, U′, V′, nextState}
 use Rattle.surge.specs.Step.{Given, seaOf, advance, before13, StepOut, refusedBefore, refusedBy13, wentOn, stepsTo, stepOf}
@@ -115,8 +116,8 @@ in-bounds m p state ok long h =
     ap (λ (a : Answer). a .number) (then-next _ _ (rw (eq-eqb _ _ long) ok) ∙ scan-none _ (N m) (λ i l. bounds-held (m .h) state i (h i l)))
 
 -- ---- what row 13 leaves
-level-passed : (h z : Float) (i : ℕ) → answerOf (level h z) i .number ≡ 0 → (inSize 30 z ≡ true) × (le tenth (h ⊕ z) ≡ true)
-unfolding level
+level-passed : (h z : Float) (i : ℕ) → answerOf (ofRise h z) i .number ≡ 0 → (inSize 30 z ≡ true) × (le tenth (h ⊕ z) ≡ true)
+unfolding ofRise
 level-passed h z i = go (inSize 30 z) (le tenth (h ⊕ z))
   where
     go : (a b : Bool) → answerOf (cond a (cond b (Fine z) (Column (h ⊕ z))) (Elevation z)) i .number ≡ 0 → (a ≡ true) × (b ≡ true)

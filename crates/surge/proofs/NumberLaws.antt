@@ -11,7 +11,7 @@ use Rattle.lists.proofs.ScanLaws.{then-stop, then-next}
 use Rattle.equations.specs.declared.Parameters.{Parameters}
 use Rattle.equations.specs.declared.Outcome.{Outcome}
 use Rattle.equations.specs.declared.Outcome.the-variants.{Accepted, Elevation, Column, East, North}
-use Rattle.equations.specs.Outcomes.{level, east, north, answerOf}
+use Rattle.equations.specs.Outcomes.{ofRise, ofEast, ofNorth, answerOf}
 use Rattle.equations.specs.declared.Forcing.{Forcing}
 use Rattle.mesh.specs.Lent.{Mesh}
 use Rattle.mesh.specs.Rows.{row1, row2, row3, row4, row5, rows3to5, row6, row6If, row7, row8, rows1to9}
@@ -93,13 +93,13 @@ outcome-last (North v) i = λ _. refl
 module _ (s : Sea) (kind : List ℕ) (f : Forcing) where
   level-last : (i : ℕ) → Last (row13Level s kind f i .number)
   unfolding row13Level
-  level-last i = outcome-last (level (node s i .h) (rise s kind f i)) i
+  level-last i = outcome-last (ofRise (node s i .h) (rise s kind f i)) i
 
   flow-last : (i : ℕ) → Last (row13Flow s kind f i .number)
   unfolding row13Flow speedOf
   flow-last i =
       let v = flowAt s kind f i in
-      then-has Last zero-last (answerOf (east (v .u)) i) (answerOf (north (v .v)) i) (outcome-last (east (v .u)) i) (outcome-last (north (v .v)) i)
+      then-has Last zero-last (answerOf (ofEast (v .u)) i) (answerOf (ofNorth (v .v)) i) (outcome-last (ofEast (v .u)) i) (outcome-last (ofNorth (v .v)) i)
 
   pub only-13 : (row13 s kind f .number ≡ 0 → ⊥) → row13 s kind f .number ≡ 13
   unfolding row13

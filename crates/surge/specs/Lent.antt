@@ -3,7 +3,7 @@ use Prim.Native.Nat.{ℕ, _*_}
 use mathlib.Core.List.{List}
 use lib.Ieee.{Float}
 use Rattle.lists.specs.Table.{zeros}
-use Rattle.lists.specs.Scan.{plus0}
+use Rattle.lists.specs.Numbers.{plus0}
 use Rattle.surge.specs.declared.Clock.{Clock}
 use Rattle.surge.specs.declared.Reply.{Reply}
 

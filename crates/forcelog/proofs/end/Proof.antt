@@ -1,5 +1,5 @@
 use lib.Ieee.{round, ofBits}
-use Rattle.lists.specs.Scan.{decimal}
+use Rattle.lists.specs.Numbers.{decimal}
 use Rattle.forcelog.specs.MeshT.{T, T-parameters}
 use Rattle.forcelog.specs.Log.{endOf}
 use borrow.Author.Needs.{needs}

@@ -1,6 +1,6 @@
 use mathlib.Core.Path.{refl}
 use lib.Ieee.{round, ofBits}
-use Rattle.lists.specs.Scan.{decimal}
+use Rattle.lists.specs.Numbers.{decimal}
 use Rattle.equations.specs.Elevation.{mean}
 use Rattle.equations.proofs.elevation.mean.Statement.{statement}
 use Rattle.equations.proofs.elevation.mean.Tie as tie

@@ -1,5 +1,5 @@
 use lib.Ieee.{round, neg, ofBits}
-use Rattle.lists.specs.Scan.{decimal, minus}
+use Rattle.lists.specs.Numbers.{decimal, minus}
 use Rattle.equations.specs.Outcomes.{speed}
 use Rattle.equations.proofs.outcomes.speed.Statement.{statement}
 use Rattle.equations.proofs.outcomes.speed.Tie as tie

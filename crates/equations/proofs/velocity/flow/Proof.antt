@@ -1,6 +1,6 @@
 use mathlib.Core.Path.{refl}
 use lib.Ieee.{round, ofBits}
-use Rattle.lists.specs.Scan.{decimal}
+use Rattle.lists.specs.Numbers.{decimal}
 use Rattle.equations.specs.Velocity.{flow, U′, V′, n, Rx, Ry, wx, wy, gx, gy, q, m, p, r, H′, H}
 use Rattle.equations.proofs.velocity.flow.Statement.{statement}
 use Rattle.equations.proofs.velocity.flow.Tie as tie

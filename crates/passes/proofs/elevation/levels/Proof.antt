@@ -5,7 +5,7 @@ use lib.ListN.{length}
 use lib.Ieee.{Float}
 use Rattle.lists.specs.Table.{table, zeros}
 use Rattle.lists.specs.Runs.{room}
-use Rattle.lists.specs.Scan.{plus0}
+use Rattle.lists.specs.Numbers.{plus0}
 use Rattle.lists.proofs.TableLaws.{length-table}
 use Rattle.passes.specs.Equations.{sea, count}
 use Rattle.passes.specs.Passes.{Solving, solving}

@@ -9,7 +9,7 @@ use Rattle.lists.specs.Table.{table, upTo}
 use Rattle.lists.specs.Scan.{clean}
 use Rattle.lists.proofs.TableLaws.{up-none, up-more, up-length, up-ahead, up-all}
 use Rattle.lists.proofs.ScanLaws.{clean-turn}
-use Rattle.equations.specs.Outcomes.{level, answerOf}
+use Rattle.equations.specs.Outcomes.{ofRise, answerOf}
 use Rattle.passes.specs.Equations.{riseOf}
 use Rattle.passes.specs.Passes.{Rising, rising, RisingFits, riseIn, levelIn}
 use Rattle.passes.proofs.elevation.rises.Statement.{statement}
@@ -54,7 +54,7 @@ judged : (c : tie.After-height Inv-loop μ-loop) → let l = c .before .before .
 unfolding levelIn
 judged c =
     let z = c .before in
-    c .height .ensures ∙ (λ j. answerOf (level (z .before .before .before .before .node-of .ensures j .h) (found z j)) (z .before .before .before .before .before .before .loop .i))
+    c .height .ensures ∙ (λ j. answerOf (ofRise (z .before .before .before .before .node-of .ensures j .h) (found z j)) (z .before .before .before .before .before .before .loop .i))
 
 loop-holds : tie.Need-loop-holds Inv-loop μ-loop
 unfolding clean

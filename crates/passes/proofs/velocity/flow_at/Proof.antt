@@ -5,7 +5,7 @@ use borrow.Author.Needs.{needs}
 use lib.Dec.{eqb}
 use lib.Ieee.{ofBits}
 use lib.ListN.{getD}
-use Rattle.lists.specs.Scan.{plus0}
+use Rattle.lists.specs.Numbers.{plus0}
 use Rattle.passes.specs.Equations.{flowOf}
 use Rattle.passes.proofs.velocity.flow_at.Statement.{statement}
 use Rattle.passes.proofs.velocity.flow_at.Tie as tie
