@@ -6,7 +6,7 @@ use mathlib.Core.Logic.{⊎-elim}
 use native.Mathlib.Nat.{not-suc-le-zero, le-of-suc-le-suc, eq-or-lt-of-le}
 use native.Mathlib.Numerals.{add-one}
 use native.Mathlib.Omega.{arith}
-use borrow.Author.Tests.{ltb-true, ltb-false, leb-true, leb-false, eqb-true, eqb-false}
+use borrow.Author.Tests.{ltb-true, ltb-false, leb-true, leb-false, eqb-true, eqb-false, ne-eqb}
 use lib.Dec.{eqb, ltb, leb}
 use Rattle.lists.specs.declared.rows.Answer.{Answer}
 use Rattle.lists.specs.Scan.{accepted, refused, row, _then_, scan, failedFirst, some}
@@ -86,55 +86,69 @@ both-right false true e = refl
 both-right false false e = e
 
 -- ---- a loop that asks every place: `at` is the first place below i at which f refuses, and n where there is none
-abbrev pub Found : (ℕ → Answer) → ℕ → ℕ → ℕ → Type 0
-Found f n i at = (at ≤ n) × (((k : ℕ) → k < i → k < at → f k .number ≡ 0) × (at < n → (at < i) × (f at .number ≡ 0 → ⊥)))
+pub record Found (f : ℕ → Answer) (n i at : ℕ) : Type 0 where
+  pub most : at ≤ n
+  pub fine : (k : ℕ) → k < i → k < at → f k .number ≡ 0
+  pub stop : at < n → (at < i) × (f at .number ≡ 0 → ⊥)
 
-module _ (f : ℕ → Answer) (n : ℕ) where
+module _ {f : ℕ → Answer} {n : ℕ} where
   pub found-none : Found f n 0 n
-  found-none = (omega arith, (λ k l _. absurd (not-suc-le-zero l), λ l. absurd (omega arith)))
+  found-none = record { most = omega arith; fine = λ k l _. absurd (not-suc-le-zero l); stop = λ l. absurd (omega arith) }
 
-  kept-before : (i at m : ℕ) → Found f n i at → m ≤ at → m ≤ i → (k : ℕ) → k < i + 1 → k < m → f k .number ≡ 0
-  kept-before i at m v l g k a b = v .1 .0 k (omega arith) (omega arith)
-
-  pub found-more : (i at : ℕ) (holds : Bool) → i < n → holds ≡ eqb (f i .number) 0 → Found f n i at → Found f n (i + 1) (failedFirst n at i holds)
+  pub found-more : {i at : ℕ} (holds : Bool) → i < n → holds ≡ eqb (f i .number) 0 → Found f n i at → Found f n (i + 1) (failedFirst n at i holds)
   unfolding failedFirst
-  found-more i at true l e v = go (ltb n at) refl
+  found-more {i} {at} true l e v = go (ltb n at) refl
     where
+      here : (k : ℕ) → k < i + 1 → k < at → f k .number ≡ 0
+      here k a b = ⊎-elim (λ (p : k ≡ i). rw p (eqb-true _ _ (sym e))) (λ p. v .fine k p b) (eq-or-lt-of-le (le-of-suc-le-suc (rw (add-one i) at a)))
+
       go : (b : Bool) → ltb n at ≡ b → Found f n (i + 1) (cond b n at)
-      go true q = absurd (omega (arith, ltb-true n at q, v .0))
-      go false q = (v .0, (here, λ m. (omega (arith, v .1 .1 m .0), v .1 .1 m .1)))
-        where
-          here : (k : ℕ) → k < i + 1 → k < at → f k .number ≡ 0
-          here k a b = ⊎-elim (λ (p : k ≡ i). rw p (eqb-true _ _ (sym e))) (λ p. v .1 .0 k p b) (eq-or-lt-of-le (le-of-suc-le-suc (rw (add-one i) at a)))
-  found-more i at false l e v = go (ltb i at) refl
+      go true q = absurd (omega (arith, ltb-true n at q, v .most))
+      go false q = record { most = v .most; fine = here; stop = λ m. (omega (arith, v .stop m .0), v .stop m .1) }
+  found-more {i} {at} false l e v = go (ltb i at) refl
     where
+      before : (m : ℕ) → m ≤ at → m ≤ i → (k : ℕ) → k < i + 1 → k < m → f k .number ≡ 0
+      before m p q k a b = v .fine k (omega arith) (omega arith)
+
       go : (b : Bool) → ltb i at ≡ b → Found f n (i + 1) (cond b i at)
-      go true q = (omega arith, (kept-before i at i v (omega (arith, ltb-true i at q)) (omega arith), λ m. (omega arith, eqb-false _ _ (sym e))))
+      go true q = record {
+        most = omega arith;
+        fine = before i (omega (arith, ltb-true i at q)) (omega arith);
+        stop = λ m. (omega arith, eqb-false _ _ (sym e));
+      }
       go false q =
           let h : at ≤ i = ltb-false i at q in
-          (v .0, (kept-before i at at v (omega arith) h, λ m. (omega arith, v .1 .1 m .1)))
+          record { most = v .most; fine = before at (omega arith) h; stop = λ m. (omega arith, v .stop m .1) }
 
   -- after the last place
-  pub found-one : (at : ℕ) → Found f n n at → at < n → f at ≡ scan f n
-  found-one at v l = sym (scan-hit f n at l (λ k h. v .1 .0 k (omega arith) h) (v .1 .1 l .1))
+  pub found-one : {at : ℕ} → Found f n n at → at < n → f at ≡ scan f n
+  found-one {at} v l = sym (scan-hit f n at l (λ k h. v .fine k (omega arith) h) (v .stop l .1))
 
-  pub found-all : (at : ℕ) → Found f n n at → n ≤ at → accepted ≡ scan f n
-  found-all at v l = sym (scan-none f n (λ k h. v .1 .0 k h (omega arith)))
+  pub found-all : {at : ℕ} → Found f n n at → n ≤ at → accepted ≡ scan f n
+  found-all {at} v l = sym (scan-none f n (λ k h. v .fine k h (omega arith)))
 
--- a row of one number, asked so
-pub found-row : (test : ℕ → Bool) (number n at : ℕ) → Found (λ i. row (test i) (suc number) i) n n at → row (leb n at) (suc number) at ≡ scan (λ i. row (test i) (suc number) i) n
+-- the same for a row of one number
+told : (test : Bool) (number place : ℕ) → test ≡ eqb (row test (suc number) place .number) 0
 unfolding row
-found-row test number n at v = go (leb n at) refl
-  where
-    go : (b : Bool) → leb n at ≡ b → row b (suc number) at ≡ scan (λ i. row (test i) (suc number) i) n
-    go true q = row-holds (suc number) at refl ∙ found-all (λ i. row (test i) (suc number) i) n at v (leb-true n at q)
-    go false q =
-        let l : at < n = leb-false n at q in
-        row-fails (suc number) at refl ∙ sym (refuses (test at) (v .1 .1 l .1)) ∙ found-one (λ i. row (test i) (suc number) i) n at v l
-      where
-        refuses : (t : Bool) → (row t (suc number) at .number ≡ 0 → ⊥) → row t (suc number) at ≡ refused (suc number) at
-        refuses true r = absurd (r refl)
-        refuses false r = refl
+told true number place = refl
+told false number place = sym (ne-eqb (suc number) 0 (λ e. absurd (omega (arith, e))))
+
+abbrev rowOf : (ℕ → Bool) → ℕ → ℕ → Answer
+rowOf test number i = row (test i) (suc number) i
+
+module _ (test : ℕ → Bool) (number n : ℕ) where
+  pub found-test : {i at : ℕ} {holds : Bool} → i < n → holds ≡ test i → Found (rowOf test number) n i at
+      → Found (rowOf test number) n (i + 1) (failedFirst n at i holds)
+  found-test {i} {at} {holds} l e v = found-more holds l (e ∙ told (test i) number i) v
+
+  pub found-row : {at : ℕ} → Found (rowOf test number) n n at → row (leb n at) (suc number) at ≡ scan (rowOf test number) n
+  unfolding row
+  found-row {at} v = go (leb n at) refl (test at) refl
+    where
+      go : (b : Bool) → leb n at ≡ b → (t : Bool) → test at ≡ t → row b (suc number) at ≡ scan (rowOf test number) n
+      go true q t r = found-all v (leb-true n at q)
+      go false q true r = absurd (v .stop (leb-false n at q) .1 (rw r))
+      go false q false r = sym (rw r) ∙ found-one v (leb-false n at q)
 
 -- ---- some place
 or-true : (b : Bool) → (b || true) ≡ true

@@ -1,3 +1,3 @@
 pub mod RowLaws
-pub mod AcceptedLaws
+pub mod ShapedLaws
 pub mod SideLaws

@@ -14,12 +14,17 @@ use lib.ListN.{length, getD, set}
 use lib.Seq.{getD-set-same, getD-set-other}
 use Rattle.lists.specs.declared.rows.Answer.{Answer}
 use Rattle.lists.specs.Gather.{Three, Below}
-use Rattle.lists.specs.Scan.{refused, row, _then_, some}
-use Rattle.lists.proofs.ScanLaws.{row-holds, row-fails, both-left, both-right, some-none, some-hit, some-more}
-use Rattle.mesh.specs.Lent.{corner, corners}
+use Rattle.lists.specs.Scan.{refused, row, _then_, scan, some}
+use Rattle.lists.proofs.ScanLaws.{then-assoc, row-holds, row-fails, both-left, both-right, some-none, some-hit, some-more}
+use Rattle.mesh.specs.Lent.{Mesh, E, corner, corners}
 use Rattle.geometry.specs.Geometry.{nth, D, allNear}
 use Rattle.mesh.specs.Geometry.{sides}
-use Rattle.mesh.specs.Rows.{allBelow, row3, row4, row5, rows3to5, isLeg, legSeen, row6, isNamed, row7}
+use Rattle.mesh.specs.Rows.{allBelow, row1, row2, row3, row4, row5, triangleRows, isLeg, legSeen, row6, isNamed, row7, shapeRows}
+
+-- ---- rows 1 to 5: rows 1 and 2 are asked together, and where they accept the rest decides
+pub lent-first : (asked : Answer) (m : Mesh) → ((asked then row1 m then row2 m) then scan (triangleRows (m .x) (m .y) (m .tri)) (E m)) ≡ shapeRows asked m
+unfolding shapeRows
+lent-first asked m = then-assoc _ _ _ ∙ ap (λ (a : Answer). asked then a) (then-assoc _ _ _)
 
 -- ---- rows 3 to 5
 pub below-all : (c : Three ℕ) (n : ℕ) → allBelow c n ≡ true → Below c n
@@ -33,17 +38,17 @@ below-all c n e =
     }
 
 module _ (x y : List ℤ) (tri : List ℕ) (t : ℕ) where
-  pub shape-3 : allBelow (corners tri t) (length x) ≡ false → rows3to5 x y tri t ≡ refused 3 t
-  unfolding rows3to5 row3 row _then_
+  pub shape-3 : allBelow (corners tri t) (length x) ≡ false → triangleRows x y tri t ≡ refused 3 t
+  unfolding triangleRows row3 row _then_
   shape-3 e = rw e
 
-  pub shape-4 : allBelow (corners tri t) (length x) ≡ true → allNear (sides x y (corners tri t)) ≡ false → rows3to5 x y tri t ≡ refused 4 t
-  unfolding rows3to5 row3 row4 row _then_
+  pub shape-4 : allBelow (corners tri t) (length x) ≡ true → allNear (sides x y (corners tri t)) ≡ false → triangleRows x y tri t ≡ refused 4 t
+  unfolding triangleRows row3 row4 row _then_
   shape-4 e f = rw (e, f)
 
   pub shape-5 : allBelow (corners tri t) (length x) ≡ true → allNear (sides x y (corners tri t)) ≡ true
-      → rows3to5 x y tri t ≡ row (ltZ (pos 0) (D (sides x y (corners tri t)))) 5 t
-  unfolding rows3to5 row3 row4 row5 row _then_
+      → triangleRows x y tri t ≡ row (ltZ (pos 0) (D (sides x y (corners tri t)))) 5 t
+  unfolding triangleRows row3 row4 row5 row _then_
   shape-5 e f = rw (e, f)
 
 -- ---- row 6

@@ -1,4 +1,4 @@
 pub mod Lent
 pub mod Geometry
 pub mod Rows
-pub mod Accepted
+pub mod Private

@@ -1,6 +1,6 @@
--- Document 01, "Refusal table", rows 1 to 8, each under its line of the table, and the order of rows 1 to 9. Row 9 is in the crate `limits`.
+-- Document 01, "Refusal table": the mesh's rows, 1 to 8 each under its line of the table, and their order. Row 9 is in the crate `limits`.
 use Prim.Native.Nat.{ℕ, _+_, _/_, _%_}
-use mathlib.Core.Bool.{Bool, true, false, _||_, _&&_, not}
+use mathlib.Core.Bool.{Bool, _||_, _&&_, not}
 use mathlib.Core.List.{List}
 use lib.IntN.{ℤ, pos}
 use lib.Signed.{ltZ}
@@ -8,7 +8,7 @@ use lib.Dec.{ltb, leb, eqb}
 use lib.ListN.{length, getD}
 use lib.Ieee.{Float, nan}
 use Rattle.lists.specs.declared.rows.Answer.{Answer}
-use Rattle.lists.specs.Scan.{accepted, row, _then_, scan, some}
+use Rattle.lists.specs.Scan.{row, _then_, scan, some}
 use Rattle.lists.specs.Gather.{Three}
 use Rattle.equations.specs.declared.Parameters.{Parameters}
 use Rattle.limits.specs.Limits.{isNode, row9}
@@ -16,10 +16,9 @@ use Rattle.mesh.specs.Lent.{Mesh, N, E, corner, corners}
 use Rattle.mesh.specs.Geometry.{sides}
 use Rattle.geometry.specs.Geometry.{D, allNear}
 
--- | 1 | triangle list no multiple of 3, or a slice of another length |. rooms: the call's other slices have their lengths
-unfoldable pub row1 : Bool → Mesh → Answer
-row1 rooms m =
-    row (rooms && eqb (length (m .y)) (N m) && eqb (length (m .h)) (N m) && eqb (length (m .kind)) (N m) && eqb (length (m .tri) % 3) 0) 1 0
+-- | 1 | triangle list no multiple of 3, or a slice of another length |: of the mesh's slices. Each call asks it of the others that it is lent
+unfoldable pub row1 : Mesh → Answer
+row1 m = row (eqb (length (m .y)) (N m) && eqb (length (m .h)) (N m) && eqb (length (m .kind)) (N m) && eqb (length (m .tri) % 3) 0) 1 0
 
 -- | 2 | N not 3..4,096 or E not 1..8,192 |
 unfoldable pub row2 : Mesh → Answer
@@ -43,8 +42,8 @@ module _ (x y : List ℤ) (tri : List ℕ) (t : ℕ) where
   row5 = row (ltZ (pos 0) (D (sides x y (corners tri t)))) 5 t
 
   -- "triangle by triangle 3, 4, 5"
-  unfoldable pub rows3to5 : Answer
-  rows3to5 = row3 then row4 then row5
+  unfoldable pub triangleRows : Answer
+  triangleRows = row3 then row4 then row5
 
 -- | 6 | a directed leg (1-2, 2-3, 3-1) seen in an earlier triangle | later triangle |
 -- the leg from one node to another is a leg of the triangle with these corners
@@ -59,11 +58,6 @@ legSeen tri t j s = isLeg (corners tri s) (corner tri t j) (corner tri t ((j + 1
 unfoldable pub row6 : List ℕ → ℕ → Answer
 row6 tri t = row (not (some (λ s. some (λ j. legSeen tri t j s) 3) t)) 6 t
 
--- "Row 6 is tested only when a mesh is opened"
-unfoldable pub row6If : Bool → List ℕ → Answer
-row6If true tri = scan (row6 tri) (length tri / 3)
-row6If false tri = accepted
-
 -- | 7 | node in no triangle | node |
 unfoldable pub isNamed : List ℕ → ℕ → Bool
 isNamed tri i = some (λ j. eqb (getD tri j 0) i) (length tri)
@@ -75,13 +69,16 @@ row7 tri i = row (isNamed tri i) 7 i
 unfoldable pub row8 : List Float → List ℕ → ℕ → Answer
 row8 h kind i = row (isNode (getD h i nan) (getD kind i 0)) 8 i
 
--- "Order: 1, 2, then triangle by triangle 3, 4, 5, then 6, 7, 8, 9, and the first place in each."
-unfoldable pub rows1to9 : Bool → Bool → Mesh → Parameters → Answer
-rows1to9 rooms opening m p =
-    row1 rooms m
-    then row2 m
-    then scan (rows3to5 (m .x) (m .y) (m .tri)) (E m)
-    then row6If opening (m .tri)
-    then scan (row7 (m .tri)) (N m)
-    then scan (row8 (m .h) (m .kind)) (N m)
-    then row9 p
+-- "Order: 1, 2, then triangle by triangle 3, 4, 5, then 6, 7, 8, 9, and the first place in each." asked: what the call asks before them
+unfoldable pub shapeRows : Answer → Mesh → Answer
+shapeRows asked m = asked then row1 m then row2 m then scan (triangleRows (m .x) (m .y) (m .tri)) (E m)
+
+unfoldable pub nodeRows : ℕ → List ℕ → List Float → List ℕ → Parameters → Answer
+nodeRows n tri h kind p = scan (row7 tri) n then scan (row8 h kind) n then row9 p
+
+-- "Every call on a run begins with rows 1 to 9 over the slices lent to it. Row 6 is tested only when a mesh is opened"
+unfoldable pub meshRows : Answer → Mesh → Parameters → Answer
+meshRows asked m p = shapeRows asked m then nodeRows (N m) (m .tri) (m .h) (m .kind) p
+
+unfoldable pub openRows : Answer → Mesh → Parameters → Answer
+openRows asked m p = shapeRows asked m then scan (row6 (m .tri)) (E m) then nodeRows (N m) (m .tri) (m .h) (m .kind) p

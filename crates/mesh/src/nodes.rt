@@ -5,7 +5,7 @@ use lists::rows::Answer;
 ghost use mathlib.Core.Path.{_≡_};
 ghost use Prim.Native.Nat.{ℕ, _<_, _≤_};
 ghost use lib.ListN.{length, getD};
-ghost use Rattle.lists.specs.Scan.{scan, clean};
+ghost use Rattle.lists.specs.Scan.{scan};
 ghost use Rattle.lists.specs.Table.{table};
 ghost use Rattle.mesh.specs.Rows.{isNamed, row7, row8};
 
@@ -23,53 +23,27 @@ fn marks(tri: &[u16]) -> [bool; 4096]
 }
 
 // Row 7: the first node below n that no triangle names.
-pub(crate) fn named(tri: &[u16], n: usize) -> Answer
+pub(crate) fn named(n: usize, tri: &[u16]) -> Answer
     requires { ⌜ n ≤ 4096 ⌝ }
     requires { ⌜ ((j : ℕ) → j < length (now tri) → getD (now tri) j 0 < n) ⌝ }
     ensures { λ r. ⌜ r ≡ scan (row7 (now (tri .entry))) n ⌝ }
 {
     let seen = marks(tri);
+    let mut at = n;
     for i in 0..n {
-        if !seen[i] {
-            return rows::refuse(7, i);
-        }
+        at = rows::failed_first(n, at, i, seen[i]);
     }
-    rows::accept()
+    rows::tested(n <= at, 7, at)
 }
 
-// Row 8 of one node.
-fn depth(h: &[f64], kind: &[u8], i: usize) -> Answer
-    requires { ⌜ (i < length (now h)) × (length (now kind) ≡ length (now h)) ⌝ }
-    ensures { λ r. ⌜ r ≡ row8 (now (h .entry)) (now (kind .entry)) i ⌝ }
+// Row 8: the first node whose depth or kind is out of range.
+pub(crate) fn depths(n: usize, h: &[f64], kind: &[u8]) -> Answer
+    requires { ⌜ (length (now h) ≡ n) × (length (now kind) ≡ n) ⌝ }
+    ensures { λ r. ⌜ r ≡ scan (row8 (now (h .entry)) (now (kind .entry))) n ⌝ }
 {
-    rows::tested(limits::is_node(h[i], kind[i]), 8, i)
-}
-
-// Whether row 8 accepts every node. Nothing leaves the loop, so that it can be made in wide registers.
-fn all_depths(h: &[f64], kind: &[u8]) -> bool
-    requires { ⌜ length (now kind) ≡ length (now h) ⌝ }
-    ensures { λ r. ⌜ r ≡ clean (row8 (now (h .entry)) (now (kind .entry))) (length (now (h .entry))) ⌝ }
-{
-    let mut all = true;
-    for i in 0..h.len() {
-        all = all & (depth(h, kind, i).number == 0);
+    let mut at = n;
+    for i in 0..n {
+        at = rows::failed_first(n, at, i, limits::is_node(h[i], kind[i]));
     }
-    all
-}
-
-// Row 8: the first node whose depth or kind is out of range, looked for only where there is one.
-pub(crate) fn depths(h: &[f64], kind: &[u8]) -> Answer
-    requires { ⌜ length (now kind) ≡ length (now h) ⌝ }
-    ensures { λ r. ⌜ r ≡ scan (row8 (now (h .entry)) (now (kind .entry))) (length (now (h .entry))) ⌝ }
-{
-    if all_depths(h, kind) {
-        return rows::accept();
-    }
-    for i in 0..h.len() {
-        let answer = depth(h, kind, i);
-        if answer.number != 0 {
-            return answer;
-        }
-    }
-    rows::accept()
+    rows::tested(n <= at, 8, at)
 }

@@ -1,6 +1,7 @@
 // Rows 3 to 6: the triangles.
 use super::reading;
 use geometry::Corners;
+use geometry::Places;
 use lists::rows;
 use lists::rows::Answer;
 ghost use mathlib.Core.Path.{_≡_};
@@ -9,17 +10,36 @@ ghost use lib.ListN.{length};
 ghost use Rattle.lists.specs.Gather.{Below};
 ghost use Rattle.lists.specs.Scan.{scan};
 ghost use Rattle.geometry.specs.Geometry.{nodesOf, nth};
-ghost use Rattle.mesh.specs.Rows.{rows3to5, isLeg, row6, row6If};
+ghost use Rattle.mesh.specs.Geometry.{placesOf};
+ghost use Rattle.mesh.specs.Rows.{triangleRows, isLeg, row6};
+
+// The coordinates of a triangle's corners.
+fn places_at(x: &[i32], y: &[i32], c: Corners) -> Places
+    requires { ⌜ (length (now y) ≡ length (now x)) × Below (nodesOf c) (length (now x)) ⌝ }
+    ensures { λ r. ⌜ r ≡ placesOf (now (x .entry)) (now (y .entry)) (nodesOf c) ⌝ }
+{
+    let i = c.n1;
+    let j = c.n2;
+    let k = c.n3;
+    Places {
+        x1: x[i],
+        x2: x[j],
+        x3: x[k],
+        y1: y[i],
+        y2: y[j],
+        y3: y[k],
+    }
+}
 
 // Rows 3, 4 and 5 of triangle t.
 fn shape(x: &[i32], y: &[i32], tri: &[u16], t: usize) -> Answer
-    requires { ⌜ (length (now y) ≡ length (now x)) × (3 * t + 2 < length (now tri)) ⌝ }
-    ensures { λ r. ⌜ r ≡ rows3to5 (now (x .entry)) (now (y .entry)) (now (tri .entry)) t ⌝ }
+    requires { ⌜ (length (now y) ≡ length (now x)) × (t < length (now tri) / 3) ⌝ }
+    ensures { λ r. ⌜ r ≡ triangleRows (now (x .entry)) (now (y .entry)) (now (tri .entry)) t ⌝ }
 {
     let n = x.len();
     let c = reading::corners_at(tri, t);
     if (c.n1 < n) & (c.n2 < n) & (c.n3 < n) {
-        let s = geometry::sides_of(reading::places_at(x, y, c));
+        let s = geometry::sides_of(places_at(x, y, c));
         if geometry::all_near(s) {
             rows::tested(0 < geometry::twice_area(s), 5, t)
         } else {
@@ -33,7 +53,7 @@ fn shape(x: &[i32], y: &[i32], tri: &[u16], t: usize) -> Answer
 // Triangle by triangle rows 3, 4 and 5.
 pub(crate) fn shapes(x: &[i32], y: &[i32], tri: &[u16]) -> Answer
     requires { ⌜ length (now y) ≡ length (now x) ⌝ }
-    ensures { λ r. ⌜ r ≡ scan (rows3to5 (now (x .entry)) (now (y .entry)) (now (tri .entry))) (length (now (tri .entry)) / 3) ⌝ }
+    ensures { λ r. ⌜ r ≡ scan (triangleRows (now (x .entry)) (now (y .entry)) (now (tri .entry))) (length (now (tri .entry)) / 3) ⌝ }
 {
     let e = tri.len() / 3;
     for t in 0..e {
@@ -69,7 +89,7 @@ fn leg_seen(its: Corners, j: usize, c: Corners) -> bool
 }
 
 // Row 6: the pairs of triangles and the legs of the later one, left at the first leg seen before.
-fn legs(tri: &[u16]) -> Answer
+pub(crate) fn legs(tri: &[u16]) -> Answer
     ensures { λ r. ⌜ r ≡ scan (row6 (now (tri .entry))) (length (now (tri .entry)) / 3) ⌝ }
 {
     let e = tri.len() / 3;
@@ -95,11 +115,4 @@ fn legs(tri: &[u16]) -> Answer
     } else {
         rows::accept()
     }
-}
-
-// Row 6 where a mesh is opened.
-pub(crate) fn legs_if(opening: bool, tri: &[u16]) -> Answer
-    ensures { λ r. ⌜ r ≡ row6If opening (now (tri .entry)) ⌝ }
-{
-    if opening { legs(tri) } else { rows::accept() }
 }

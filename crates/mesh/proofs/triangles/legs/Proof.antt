@@ -8,7 +8,10 @@ use borrow.Author.Needs.{needs}
 use Rattle.lists.specs.declared.rows.Answer.{Answer}
 use Rattle.lists.specs.Scan.{refused, some}
 use Rattle.lists.proofs.ScanLaws.{scan-none, scan-hit, some-none}
+use Rattle.geometry.specs.Geometry.{nodesOf}
+use Rattle.mesh.specs.Lent.{corners}
 use Rattle.mesh.specs.Rows.{legSeen, row6}
+use Rattle.mesh.proofs.SideLaws.{corners-read}
 use Rattle.mesh.proofs.RowLaws.{corners-small, seen-leg, legs-new, leg-old}
 use Rattle.mesh.proofs.triangles.legs.Statement.{statement}
 use Rattle.mesh.proofs.triangles.legs.Tie as tie
@@ -34,6 +37,15 @@ Inv-pairs tri e t₀ t = (t ≤ e) × ((q : ℕ) → q < t → row6 tri q .numbe
 abbrev μ-pairs : tie.MeasureT-pairs
 μ-pairs tri e t₀ t = e - t
 
+-- the corners that were read are those of triangle t, and of the earlier triangle s
+later : (l : tie.At-loop Inv-loop2 μ-loop2 Inv-loop μ-loop Inv-pairs μ-pairs)
+    → nodesOf (l .before .corners-at .result) ≡ corners (l .before .before .before .before .before .args .tri .now) (l .before .before .before .pairs .t)
+later l = corners-read _ _ (l .before .before .pairs-test .taken) (l .before .corners-at .ensures)
+
+earlier : (k : tie.At-loop2 Inv-loop2 μ-loop2 Inv-loop μ-loop Inv-pairs μ-pairs)
+    → let l = k .before .before .before in nodesOf (k .before .corners-at2 .result) ≡ corners (l .before .before .before .before .before .args .tri .now) (l .loop .s)
+earlier k = corners-read _ _ (omega (arith, k .before .before .loop-test .taken, k .before .before .before .before .before .pairs-test .taken)) (k .before .corners-at2 .ensures)
+
 pairs-holds : tie.Need-pairs-holds Inv-loop2 μ-loop2 Inv-loop μ-loop Inv-pairs μ-pairs
 pairs-holds c = (search needs, below-none _)
 
@@ -48,14 +60,14 @@ leg-seen-requires c κs =
     let l = c .before .before .before .before in
     let p = l .before .before .before in
     let small = corners-small (p .before .before .args .tri .now) (p .before .shared-slice-known .given) in
-    (search needs, rw (l .before .corners-at .ensures) (small (p .pairs .t)), rw (c .before .before .corners-at2 .ensures) (small (l .loop .s)))
+    (search needs, rw (later l) (small (p .pairs .t)), rw (earlier (c .before)) (small (l .loop .s)))
 
 loop2-again : tie.Need-loop2-again Inv-loop2 μ-loop2 Inv-loop μ-loop Inv-pairs μ-pairs
 loop2-again c =
     let k = c .before .before .before in
     let l = k .before .before .before in
     let p = l .before .before .before in
-    let its = seen-leg (p .before .before .args .tri .now) (p .pairs .t) (k .loop2 .j) (l .loop .s) (c .before .before .loop2-test .taken) (l .before .corners-at .ensures) (k .before .corners-at2 .ensures) in
+    let its = seen-leg (p .before .before .args .tri .now) (p .pairs .t) (k .loop2 .j) (l .loop .s) (c .before .before .loop2-test .taken) (later l) (earlier k) in
     (search needs, below-more _ _ (k .loop2 .inv .1) (sym its ∙ sym (c .before .leg-seen .ensures) ∙ c .if1 .left))
 
 loop-again : tie.Need-loop-again Inv-loop2 μ-loop2 Inv-loop μ-loop Inv-pairs μ-pairs
@@ -71,7 +83,7 @@ returns c =
     ⊎-elim
     (λ w. absurd (omega arith))
     (λ w. leg-old _ _ _ _ (w .3 .taken) (w .6 .taken)
-    (sym (seen-leg (p .before .before .args .tri .now) (p .pairs .t) (w .5 .j) (w .2 .s) (w .6 .taken) (w .1 .ensures) (w .4 .ensures))
+    (sym (seen-leg (p .before .before .args .tri .now) (p .pairs .t) (w .5 .j) (w .2 .s) (w .6 .taken) (corners-read _ _ (w .0 .taken) (w .1 .ensures)) (corners-read _ _ (omega (arith, w .3 .taken, w .0 .taken)) (w .4 .ensures)))
     ∙ sym (w .7 .ensures)
     ∙ w .8 .taken))
     (c .before .before .pairs-test .came) in

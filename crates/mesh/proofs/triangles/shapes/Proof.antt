@@ -4,13 +4,13 @@ use native.Mathlib.Omega.{arith}
 use borrow.Author.Count.{below-none, below-more}
 use borrow.Author.Needs.{needs}
 use Rattle.lists.proofs.ScanLaws.{scan-none, scan-hit, same-number, other-number}
-use Rattle.mesh.specs.Rows.{rows3to5}
+use Rattle.mesh.specs.Rows.{triangleRows}
 use Rattle.mesh.proofs.triangles.shapes.Statement.{statement}
 use Rattle.mesh.proofs.triangles.shapes.Tie as tie
 
 -- no triangle passed so far refuses
 abbrev Inv-loop : tie.InvT-loop
-Inv-loop x y tri e t₀ t = (t ≤ e) × ((k : ℕ) → k < t → rows3to5 x y tri k .number ≡ 0)
+Inv-loop x y tri e t₀ t = (t ≤ e) × ((k : ℕ) → k < t → triangleRows x y tri k .number ≡ 0)
 
 abbrev μ-loop : tie.MeasureT-loop
 μ-loop x y tri e t₀ t = e - t
