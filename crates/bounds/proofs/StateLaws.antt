@@ -1,46 +1,52 @@
--- What row 10 comes to, and what is known where rows 1 to 10 accept.
+-- What is known where the rows of a call on a run accept: what a step and a save go on with.
 use Prim.Native.Nat.{ℕ, _*_, _<_}
-use mathlib.Core.Path.{_≡_, ap}
-use mathlib.Core.Bool.{Bool, true, false, _&&_}
+use mathlib.Core.Path.{_≡_, refl, ap, _∙_}
+use mathlib.Core.Bool.{true}
 use mathlib.Core.List.{List}
-use borrow.Author.Tests.{eqb-true}
+use borrow.Author.Tests.{eqb-true, eq-eqb}
 use lib.ListN.{length}
 use lib.Ieee.{Float}
 use Rattle.lists.specs.declared.rows.Answer.{Answer}
-use Rattle.lists.specs.Runs.{isRuns}
-use Rattle.lists.proofs.ScanLaws.{row-holds, then-first, then-rest, scan-clean, both-left, both-right}
+use Rattle.lists.specs.Scan.{accepted, _then_}
+use Rattle.lists.proofs.ScanLaws.{row-holds, row-passed, then-next, then-first, then-rest, scan-none, scan-clean}
 use Rattle.equations.specs.declared.Parameters.{Parameters}
 use Rattle.limits.specs.Limits.{inBounds}
 use Rattle.mesh.specs.Lent.{Mesh, N}
-use Rattle.mesh.specs.Rows.{rows1to9}
-use Rattle.bounds.specs.State.{nodeOf, row10, rows1to10}
-use Rattle.mesh.specs.Accepted.{Accepted}
-use Rattle.mesh.proofs.AcceptedLaws.{accepted, accepted-rooms}
+use Rattle.mesh.specs.Rows.{meshRows}
+use Rattle.mesh.specs.Private.{Shaped}
+use Rattle.mesh.proofs.ShapedLaws.{shaped, shaped-asked, mesh-parts, mesh-asked}
+use Rattle.bounds.specs.State.{stateRuns, nodeOf, row1State, row10, runRows}
 
-module _ (h state : List Float) (i : ℕ) where
-  pub bounds-held : inBounds (nodeOf h state i) ≡ true → row10 h state i .number ≡ 0
-  unfolding row10
-  bounds-held e = ap (λ (a : Answer). a .number) (row-holds 10 i e)
+pub long-state : (m : Mesh) (state : List Float) → row1State m state .number ≡ 0 → length state ≡ stateRuns * N m
+long-state m state e = eqb-true _ _ (row-passed _ 0 0 e)
 
--- ---- what is known where rows 1 to 10 accept a run: what a step and a save go on with
-module _ (rooms : Bool) (m : Mesh) (p : Parameters) (state : List Float) where
+module _ (asked : Answer) (m : Mesh) (p : Parameters) (state : List Float) where
   pub record AcceptedRun : Type 0 where
-    pub to-9 : rows1to9 true false m p .number ≡ 0
-    pub mesh : Accepted m p
-    -- "The state is 4N numbers", and the call's other slices have their lengths
-    pub long : length state ≡ 4 * N m
-    pub others : rooms ≡ true
-    pub bounds : (i : ℕ) → i < N m → row10 (m .h) state i .number ≡ 0
+    pub mesh : meshRows accepted m p .number ≡ 0
+    pub shape : Shaped m
+    pub others : asked .number ≡ 0
+    pub long : length state ≡ stateRuns * N m
+    pub bounds : (i : ℕ) → i < N m → inBounds (nodeOf (N m) (m .h) state i) ≡ true
 
-  pub accepted-run : rows1to10 rooms m p state .number ≡ 0 → AcceptedRun
-  unfolding rows1to10
+  pub accepted-run : runRows asked m p state .number ≡ 0 → AcceptedRun
+  unfolding runRows row10
   accepted-run ok =
-      let to-9 : rows1to9 (isRuns (length state) 4 (N m) && rooms) false m p .number ≡ 0 = then-first _ _ ok in
-      let all = accepted-rooms _ _ _ _ to-9 in
+      let lent = then-first _ _ ok in
+      let s = mesh-parts _ m p lent .0 in
+      let before = shaped-asked _ m s in
       record {
-        to-9 = rw all at to-9;
-        mesh = accepted _ _ _ _ to-9;
-        long = eqb-true _ _ (both-left _ rooms all);
-        others = both-right (isRuns (length state) 4 (N m)) _ all;
-        bounds = scan-clean _ (N m) (then-rest _ _ ok);
+        mesh = mesh-asked _ m p lent;
+        shape = shaped _ m s;
+        others = then-first asked _ before;
+        long = long-state m state (then-rest asked _ before);
+        bounds = λ i l. row-passed _ 9 i (scan-clean _ (N m) (then-rest _ _ ok) i l);
       }
+
+-- a state of four runs with every node in bounds, on a mesh that its rows accept
+pub in-bounds : (m : Mesh) (p : Parameters) (state : List Float) → meshRows accepted m p .number ≡ 0 → length state ≡ stateRuns * N m
+    → ((i : ℕ) → i < N m → inBounds (nodeOf (N m) (m .h) state i) ≡ true) → runRows accepted m p state .number ≡ 0
+unfolding runRows row10
+in-bounds m p state ok long h =
+    let fits : (accepted then row1State m state) ≡ accepted = then-next accepted _ refl ∙ row-holds 1 0 (eq-eqb _ _ long) in
+    ap (λ (a : Answer). a .number)
+    (then-next _ _ (rw fits ok) ∙ scan-none _ (N m) (λ i l. ap (λ (a : Answer). a .number) (row-holds 10 i (h i l))))

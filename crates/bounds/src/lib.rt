@@ -1,4 +1,4 @@
-// Row 10, and rows 1 to 10 in the document's order.
+// The state: the mesh's rows and row 10, in the document's order.
 use equations::Node;
 use equations::Parameters;
 use lists::rows;
@@ -7,64 +7,42 @@ use lists::slices;
 ghost use mathlib.Core.Path.{_≡_};
 ghost use Prim.Native.Nat.{_*_, _<_};
 ghost use lib.ListN.{length};
-ghost use Rattle.lists.specs.Scan.{scan, clean};
+ghost use Rattle.lists.specs.Scan.{scan};
 ghost use Rattle.mesh.specs.Lent.{mesh};
-ghost use Rattle.bounds.specs.State.{nodeOf, row10, rows1to10};
+ghost use Rattle.bounds.specs.State.{stateRuns, nodeOf, row10, runRows};
 
-fn node_of(h: &[f64], state: &[f64], i: usize) -> Node
-    requires { ⌜ (i < length (now h)) × (length (now state) ≡ 4 * length (now h)) ⌝ }
-    ensures { λ r. ⌜ r ≡ nodeOf (now (h .entry)) (now (state .entry)) i ⌝ }
+// The runs of a state: earlier elevation, present elevation, U, V.
+pub const STATE_RUNS: usize = 4;
+
+// Node i of n, as the state has it.
+fn node_of(n: usize, h: &[f64], state: &[f64], i: usize) -> Node
+    requires { ⌜ (i < n) × (length (now h) ≡ n) × (length (now state) ≡ stateRuns * n) ⌝ }
+    ensures { λ r. ⌜ r ≡ nodeOf n (now (h .entry)) (now (state .entry)) i ⌝ }
 {
-    let n = h.len();
     Node {
         h: h[i],
-        earlier: state[i],
-        z: state[n + i],
+        earlier: state[0 * n + i],
+        z: state[1 * n + i],
         u: state[2 * n + i],
         v: state[3 * n + i],
     }
 }
 
-// Row 10 of one node.
-fn bound(h: &[f64], state: &[f64], i: usize) -> Answer
-    requires { ⌜ (i < length (now h)) × (length (now state) ≡ 4 * length (now h)) ⌝ }
-    ensures { λ r. ⌜ r ≡ row10 (now (h .entry)) (now (state .entry)) i ⌝ }
+// Row 10: the first node that is out of its bounds.
+fn nodes(n: usize, h: &[f64], state: &[f64]) -> Answer
+    requires { ⌜ (length (now h) ≡ n) × (length (now state) ≡ stateRuns * n) ⌝ }
+    ensures { λ r. ⌜ r ≡ scan (row10 n (now (h .entry)) (now (state .entry))) n ⌝ }
 {
-    rows::tested(limits::in_bounds(node_of(h, state, i)), 10, i)
+    let mut at = n;
+    for i in 0..n {
+        at = rows::failed_first(n, at, i, limits::in_bounds(node_of(n, h, state, i)));
+    }
+    rows::tested(n <= at, 10, at)
 }
 
-// Whether row 10 accepts every node. Nothing leaves the loop, so that it can be made in wide registers.
-fn all_bounds(h: &[f64], state: &[f64]) -> bool
-    requires { ⌜ length (now state) ≡ 4 * length (now h) ⌝ }
-    ensures { λ r. ⌜ r ≡ clean (row10 (now (h .entry)) (now (state .entry))) (length (now (h .entry))) ⌝ }
-{
-    let mut all = true;
-    for i in 0..h.len() {
-        all = all & (bound(h, state, i).number == 0);
-    }
-    all
-}
-
-// Row 10: the first node that is out of its bounds, looked for only where there is one.
-fn nodes(h: &[f64], state: &[f64]) -> Answer
-    requires { ⌜ length (now state) ≡ 4 * length (now h) ⌝ }
-    ensures { λ r. ⌜ r ≡ scan (row10 (now (h .entry)) (now (state .entry))) (length (now (h .entry))) ⌝ }
-{
-    if all_bounds(h, state) {
-        return rows::accept();
-    }
-    for i in 0..h.len() {
-        let answer = bound(h, state, i);
-        if answer.number != 0 {
-            return answer;
-        }
-    }
-    rows::accept()
-}
-
-// Rows 1 to 10. `rooms`: the call's slices besides the mesh and the state have their lengths.
-pub fn rows_to_10(
-    rooms: bool,
+// What the call asks before, the state's length, the mesh's rows, then row 10.
+pub fn run_rows(
+    asked: Answer,
     x: &[i32],
     y: &[i32],
     tri: &[u16],
@@ -73,12 +51,12 @@ pub fn rows_to_10(
     p: Parameters,
     state: &[f64],
 ) -> Answer
-    ensures { λ r. ⌜ r ≡ rows1to10 rooms (mesh (now (x .entry)) (now (y .entry)) (now (tri .entry)) (now (h .entry)) (now (kind .entry))) p (now (state .entry)) ⌝ }
+    ensures { λ r. ⌜ r ≡ runRows asked (mesh (now (x .entry)) (now (y .entry)) (now (tri .entry)) (now (h .entry)) (now (kind .entry))) p (now (state .entry)) ⌝ }
 {
-    let all = slices::is_runs(state.len(), 4, x.len()) & rooms;
-    let lent = mesh::check(all, false, x, y, tri, h, kind, p);
+    let long = rows::tested(slices::is_runs(state.len(), STATE_RUNS, x.len()), 1, 0);
+    let lent = mesh::mesh_rows(rows::first(asked, long), x, y, tri, h, kind, p);
     if lent.number != 0 {
         return lent;
     }
-    nodes(h, state)
+    nodes(x.len(), h, state)
 }

@@ -1,5 +1,5 @@
 -- Laws of `runsOf`, over run c of any number of runs: how long it is, what is read at a place, and what a run that is written anew makes of it.
-use Prim.Native.Nat.{ℕ, zero, suc, _+_, _*_, _/_, _%_, _<_, _≤_}
+use Prim.Native.Nat.{ℕ, zero, suc, _+_, _-_, _*_, _/_, _%_, _<_, _≤_}
 use mathlib.Core.Path.{_≡_, refl, sym, ap, _∙_}
 use mathlib.Core.List.{List, [], _∷_, _++_, append-assoc}
 use native.Mathlib.Nat.{not-suc-le-zero, le-of-suc-le-suc, suc-mul, add-comm, add-assoc, add-zero, zero-mul, zero-add, suc-add, div-add-mod, mul-div-right, mul-mod-right}
@@ -9,9 +9,10 @@ use borrow.Author.Tests.{ltb-true, ltb-false, eqb-true, eqb-false, eq-eqb, ne-eq
 use lib.Dec.{eqb, ltb}
 use lib.ListN.{length, getD, set, take, drop, length-append, length-drop, take-append-drop, List·getD-append}
 use lib.Seq.{getD-append-add, set-append-left, take-append-add, drop-at, drop-drop, getD-take, getD-drop, length-take-le}
-use Rattle.lists.specs.Table.{table}
+use borrow.Rule.Slice.PartMut.{midOf, putMid, post-is}
+use Rattle.lists.specs.Table.{table, copied}
 use Rattle.lists.specs.Runs.{isRuns, runsOf, withRun}
-use Rattle.lists.proofs.TableLaws.{length-table, getD-table, is-table, table-same, table-join, set-table, putAt}
+use Rattle.lists.proofs.TableLaws.{length-table, getD-table, is-table, table-same, table-join, set-table, copied-whole, putAt}
 
 -- the next run starts n further on
 next : (n k : ℕ) → suc k * n ≡ n + k * n
@@ -125,6 +126,26 @@ module _ {A : Type 0} (n : ℕ) where
       ∙ (λ j. first j ++ as-runs d k (drop n l) rest j)
       ∙ ap (λ (g : ℕ → ℕ → A). table n (λ i. getD l (0 * n + i) d) ++ runsOf n (table k g))
       (λ j c i. (getD-drop n l (c * n + i) d ∙ ap (λ (m : ℕ). getD l m d) (sym (place n c i))) j)
+
+  -- run e of one list copied to run c of another, each lent as a part
+  part-run : (d : A) (c : ℕ) (l : List A) → suc c * n ≤ length l → take ((c * n + n) - c * n) (drop (c * n) l) ≡ table n (λ i. getD l (c * n + i) d)
+  part-run d c l h =
+      let wide : (c * n + n) - c * n ≡ n = omega arith in
+      let rest : n ≤ length (drop (c * n) l) = simp length-drop (omega (arith, suc-mul c n)) in
+      ap (λ (m : ℕ). take m (drop (c * n) l)) wide
+      ∙ is-table d n _ _ (length-take-le n (drop (c * n) l) rest) (λ i p. getD-take n (drop (c * n) l) i d p ∙ getD-drop (c * n) l i d)
+
+  pub run-copied : (d : A) (c e : ℕ) (to from : List A) {r : List A} → suc c * n ≤ length to → suc e * n ≤ length from
+      → r ≡ copied (take ((e * n + n) - e * n) (drop (e * n) from)) (midOf (c * n) ((c * n + n) - c * n) to)
+      → putMid (c * n) ((c * n + n) - c * n) to r ≡ withRun n c (λ i. getD from (e * n + i) d) to
+  unfolding withRun
+  run-copied d c e to from {r} h k q =
+      let its = part-run d e from k in
+      let here = part-run d c to h in
+      let same = ap length here ∙ length-table n _ ∙ sym (ap length its ∙ length-table n _) in
+      let le : c * n ≤ c * n + n = omega arith in
+      (λ i. take (c * n) to ++ ((q ∙ copied-whole _ _ same ∙ its) i ++ post-is (c * n) (c * n + n) to le i))
+      ∙ ap (λ (m : ℕ). take (c * n) to ++ (table n (λ i. getD from (e * n + i) d) ++ drop m to)) (sym (suc-mul c n))
 
 -- ---- a loop that writes the places of a run in turn: the run `old`, written anew by `new` before place i
 abbrev pub turned : {A : Type 0} → ℕ → (ℕ → A) → (ℕ → A) → ℕ → A

@@ -1,6 +1,6 @@
 -- Where the mesh's rows accept, the mesh is as `Shaped` says, and so is what the call asked before.
 use Prim.Native.Nat.{ℕ, zero, suc, _/_, _%_, _<_}
-use mathlib.Core.Path.{_≡_, refl, sym, subst}
+use mathlib.Core.Path.{_≡_, refl, sym, ap, subst, _∙_}
 use mathlib.Core.Bool.{Bool, true, false, _&&_}
 use mathlib.Core.List.{List}
 use native.Mathlib.Nat.{div-add-mod}
@@ -13,9 +13,9 @@ use lib.ListN.{length, getD}
 use lib.Ieee.{Float, nan}
 use Rattle.lists.specs.declared.rows.Answer.{Answer}
 use Rattle.lists.specs.Gather.{Below}
-use Rattle.lists.specs.Scan.{_then_}
+use Rattle.lists.specs.Scan.{accepted, _then_}
 use Rattle.lists.specs.Numbers.{within, decimal}
-use Rattle.lists.proofs.ScanLaws.{row-passed, then-first, then-rest, scan-clean, both-left, both-right}
+use Rattle.lists.proofs.ScanLaws.{row-passed, then-next, then-first, then-rest, scan-clean, both-left, both-right}
 use Rattle.equations.specs.declared.Parameters.{Parameters}
 use Rattle.geometry.specs.Geometry.{D, allNear}
 use Rattle.geometry.proofs.GeometryLaws.{all-small}
@@ -123,6 +123,17 @@ pub mesh-parts : (asked : Answer) (m : Mesh) (p : Parameters) → meshRows asked
     → (shapeRows asked m .number ≡ 0) × (nodeRows (N m) (m .tri) (m .h) (m .kind) p .number ≡ 0)
 unfolding meshRows
 mesh-parts asked m p e = (then-first _ _ e, then-rest _ _ e)
+
+-- where they accept, so do the mesh's rows with nothing asked before
+pub parts-mesh : (asked : Answer) (m : Mesh) (p : Parameters) → shapeRows asked m .number ≡ 0 → nodeRows (N m) (m .tri) (m .h) (m .kind) p .number ≡ 0
+    → meshRows accepted m p .number ≡ 0
+unfolding meshRows shapeRows
+parts-mesh asked m p e f =
+    let shape : shapeRows accepted m .number ≡ 0 = ap (λ (a : Answer). a .number) (then-next accepted _ refl) ∙ then-rest asked _ e in
+    ap (λ (a : Answer). a .number) (then-next _ _ shape) ∙ f
+
+pub mesh-asked : (asked : Answer) (m : Mesh) (p : Parameters) → meshRows asked m p .number ≡ 0 → meshRows accepted m p .number ≡ 0
+mesh-asked asked m p e = let parts = mesh-parts asked m p e in parts-mesh asked m p (parts .0) (parts .1)
 
 pub open-parts : (asked : Answer) (m : Mesh) (p : Parameters) → openRows asked m p .number ≡ 0
     → (shapeRows asked m .number ≡ 0) × (nodeRows (N m) (m .tri) (m .h) (m .kind) p .number ≡ 0)

@@ -1,4 +1,2 @@
 pub mod PassLaws
-pub mod RoomLaws
-pub mod SolveLaws
 pub mod SettleLaws

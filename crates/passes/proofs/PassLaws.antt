@@ -1,162 +1,202 @@
--- How a turn of each pass of a step takes the sums on.
-use Prim.Native.Nat.{ℕ, _+_, _*_, _/_, _^_, _<_, _≤_}
-use mathlib.Core.Path.{_≡_, refl, sym, ap, subst, _∙_}
+-- How a turn of each pass of a step takes the work room on, and what the room is before the first turn and after the last.
+use Prim.Native.Nat.{ℕ, _+_, _*_, _^_, _<_, _≤_}
+use mathlib.Core.Path.{_≡_, refl, sym, ap, _∙_}
 use mathlib.Core.List.{List, [], _∷_}
 use mathlib.Core.Bool.{Bool, true, false}
 use native.Mathlib.Omega.{arith}
 use borrow.Author.Tests.{ltb-true, ltb-false}
-use lib.Dec.{ltb}
-use lib.ListN.{length, getD, set, List·getD-eq-default}
+use lib.Dec.{ltb, lit<}
+use lib.ListN.{getD, set, List·getD-eq-default}
 use lib.Ieee.{Float, nan}
-use Rattle.lists.specs.Table.{table, upTo}
-use Rattle.lists.specs.Runs.{run, room}
-use Rattle.lists.specs.Numbers.{plus0}
-use Rattle.lists.specs.Gather.{Three, alike, whole, gathered, Below, spread}
-use Rattle.lists.proofs.TableLaws.{length-table, getD-table, up-none, up-more, up-length, up-ahead}
-use Rattle.lists.proofs.GatherLaws.{gather-none, gather-more, gathered-le}
+use Rattle.lists.specs.Table.{table}
+use Rattle.lists.specs.Runs.{inRun, runsOf}
+use Rattle.lists.specs.Gather.{Three, alike, whole, past, gathered, Below, spread}
+use Rattle.lists.proofs.TableLaws.{length-table, getD-table}
+use Rattle.lists.proofs.RunLaws.{in-runs, run-read, run-same, run-turn, turned, turn-none, turn-here, turn-all}
+use Rattle.lists.proofs.GatherLaws.{gather-more, gather-run, gathered-le}
+use Rattle.equations.specs.declared.Node.{Node}
 use Rattle.equations.specs.declared.Flow.{Flow}
 use Rattle.equations.specs.declared.Sides.{Sides}
+use Rattle.equations.specs.declared.Shares.{Shares}
+use Rattle.equations.specs.Operations.{_⊕_}
+use Rattle.equations.specs.Elevation.{shares, slope}
+use Rattle.geometry.specs.declared.Places.{Places}
+use Rattle.geometry.specs.declared.Corners.{Corners}
+use Rattle.geometry.specs.declared.WholeSides.{WholeSides}
+use Rattle.geometry.specs.Geometry.{nodesOf, nearD, counted, nearFloats, sidesAt}
+use Rattle.geometry.proofs.GeometryLaws.{near-floats, near-count}
+use Rattle.mesh.specs.Lent.{E}
+use Rattle.mesh.specs.Geometry.{placesOf, sides, area}
+use Rattle.mesh.specs.Private.{Sound}
+use Rattle.mesh.proofs.SideLaws.{sides-read}
 use Rattle.passes.specs.declared.velocity.Slope.{Slope}
-use Rattle.mesh.specs.Lent.{corners}
-use Rattle.mesh.specs.Geometry.{sides, area}
-use Rattle.geometry.specs.Geometry.{floats}
-use Rattle.bounds.specs.State.{nodeOf}
-use Rattle.passes.specs.Equations.{Sea, count, triangles, floating, sharesAt, flowOf, pushOf}
-use Rattle.passes.specs.Passes.{Ready, Sloping, SlopingFits, slopeOf, slopeIn, PxIn, PyIn, slopeRoom, Moving, flowIn, flowRoom}
-use Rattle.passes.proofs.RoomLaws.{three-length, run-first, run-second, run-third, read-first, read-second, read-third}
+use Rattle.passes.specs.Equations.{Given, count, node, kindOf, cornersOf, floatsAt, floating, threeOf, sharesAt, R, S, riseOf, rise, both, slopeX, slopeY, Px, Py, flowOf, pushOf, flowAt, U′, V′}
+use Rattle.passes.specs.Private.{Fits, zero, sumRoom, riseRoom, slopeRoom, flowRoom, bothOf, slopeOf}
 
--- ---- R and S over the triangles below t
-abbrev pub R-to : Sea → ℕ → ℕ → Float
-R-to s t = gathered floating (corners (s .tri)) (sharesAt s) t
+-- ---- the work room while a pass is made: the triangles below t, or the nodes below i, are done
+module _ (g : Given) where
+  abbrev pub sumsTo : ℕ → List Float
+  sumsTo t = runsOf (count g) (gathered floating (cornersOf g) (sharesAt g) t ∷ zero ∷ zero ∷ [])
 
-abbrev pub S-to : Sea → ℕ → ℕ → ℕ
-S-to s t = gathered whole (corners (s .tri)) (λ k. alike (area (s .x) (s .y) (s .tri) k)) t
+  abbrev pub risesTo : ℕ → List Float
+  risesTo i = runsOf (count g) (turned i (rise g) (R g) ∷ zero ∷ zero ∷ [])
 
-pub R-none : (s : Sea) → table (count s) (λ _. plus0) ≡ table (count s) (R-to s 0)
-R-none s = gather-none floating nan (count s) (corners (s .tri)) (sharesAt s)
+  abbrev pub slopesTo : ℕ → List Float
+  slopesTo t = runsOf (count g) (rise g ∷ gathered floating (cornersOf g) (slopeX g) t ∷ gathered floating (cornersOf g) (slopeY g) t ∷ [])
 
-pub S-none : (s : Sea) → table (count s) (λ _. 0) ≡ table (count s) (S-to s 0)
-S-none s = gather-none whole 0 (count s) (corners (s .tri)) (λ k. alike (area (s .x) (s .y) (s .tri) k))
+  abbrev pub flowsTo : ℕ → List Float
+  flowsTo i = runsOf (count g) (rise g ∷ turned i (U′ g) (Px g) ∷ turned i (V′ g) (Py g) ∷ [])
 
-module _ (s : Sea) (ready : Ready s) where
-  pub corners-below : (t : ℕ) → t < triangles s → Below (corners (s .tri) t) (count s)
-  corners-below t h = subst (λ (n : ℕ). Below (corners (s .tri) t) n) (ready .x) (ready .sound t h .nodes)
+  abbrev pub areas : ℕ → Three ℕ
+  areas t = alike (area (g .mesh .x) (g .mesh .y) (g .mesh .tri) t)
 
-  pub R-more : (t : ℕ) → t < triangles s → (c : Three ℕ) (v : Three Float) (r : List Float) → c ≡ corners (s .tri) t → v ≡ sharesAt s t → r ≡ table (count s) (R-to s t)
-      → spread floating nan c v r ≡ table (count s) (R-to s (t + 1))
-  R-more t h c v r ec ev er = (λ i. spread floating nan (ec i) (ev i) (er i)) ∙ gather-more floating nan (count s) (corners (s .tri)) (sharesAt s) t (corners-below t h)
+  -- the sums S over the triangles below t
+  abbrev pub S-to : ℕ → ℕ → ℕ
+  S-to t = gathered whole (cornersOf g) areas t
 
-  pub S-more : (t : ℕ) → t < triangles s → (c : Three ℕ) (d : ℕ) (l : List ℕ) → c ≡ corners (s .tri) t → d ≡ area (s .x) (s .y) (s .tri) t → l ≡ table (count s) (S-to s t)
-      → spread whole 0 c (alike d) l ≡ table (count s) (S-to s (t + 1))
-  S-more t h c d l ec ed el =
-      (λ i. spread whole 0 (ec i) (alike (ed i)) (el i))
-      ∙ gather-more whole 0 (count s) (corners (s .tri)) (λ k. alike (area (s .x) (s .y) (s .tri) k)) t (corners-below t h)
+-- a triangle's corners in run k of several
+pub in-run : {c : Three ℕ} {n : ℕ} (k m : ℕ) → k < m → Below c n → Below (past (k * n) c) (m * n)
+in-run {c} {n} k m h b = record {
+  first = in-runs n k m (c .first) h (b .first);
+  second = in-runs n k m (c .second) h (b .second);
+  third = in-runs n k m (c .third) h (b .third);
+}
 
-  -- a sum is small at each place, and past the end it is 0
-  small-sum : (t i : ℕ) → t ≤ triangles s → S-to s t i ≤ 60000000000 * t
+module _ (g : Given) (z : Fits g) where
+  -- ---- triangle t, as it is read
+  module _ (t : ℕ) (h : t < E (g .mesh)) where
+    pub sound : Sound (g .mesh .x) (g .mesh .y) (g .mesh .tri) t
+    sound = z .shape .triangles t h
+
+    module _ {c : Corners} (ec : nodesOf c ≡ cornersOf g t) where
+      pub inside : Below (nodesOf c) (count g)
+      inside = rw ec (sound .nodes)
+
+      module _ {q : Places} (eq : q ≡ placesOf (g .mesh .x) (g .mesh .y) (nodesOf c)) where
+        its-sides : sidesAt q ≡ sides (g .mesh .x) (g .mesh .y) (cornersOf g t)
+        its-sides = sides-read (g .mesh .x) (g .mesh .y) q (nodesOf c) (cornersOf g t) eq ec
+
+        pub its-floats : nearFloats (sidesAt q) ≡ floatsAt g t
+        its-floats = ap nearFloats its-sides ∙ near-floats _ (sound .small)
+
+        pub its-area : {s : WholeSides} {d : ℕ} → s ≡ sidesAt q → d ≡ counted (nearD s) → alike d ≡ areas g t
+        unfolding area
+        its-area es ed = ap alike (ed ∙ ap (λ (s : WholeSides). counted (nearD s)) (es ∙ its-sides) ∙ near-count _ (sound .small) (sound .turns))
+
+        pub its-shares : {v : Shares}
+            → v ≡ shares (g .p) (g .wind) (node g (c .n1)) (node g (c .n2)) (node g (c .n3)) (nearFloats (sidesAt q)) → threeOf v ≡ sharesAt g t
+        unfolding sharesAt
+        its-shares ev =
+            ap threeOf ev
+            ∙ (λ i.
+            let k = ec i in
+            threeOf (shares (g .p) (g .wind) (node g (k .first)) (node g (k .second)) (node g (k .third)) (its-floats i)))
+
+    -- z + z' of a corner, and what the triangle adds to Px and to Py
+    both-read : {work : List Float} (fs : List (ℕ → Float)) (i : ℕ) → i < count g → work ≡ runsOf (count g) (rise g ∷ fs)
+        → bothOf (count g) (g .state) work i ≡ both g i
+    both-read fs i l e = ap (λ (v : Float). node g i .z ⊕ v) (ap (λ (w : List Float). inRun (count g) 0 w i) e ∙ run-read (count g) (rise g ∷ fs) 0 i nan (omega arith) l)
+
+    its-slope : {work : List Float} (fs : List (ℕ → Float)) {c : Three ℕ} {s : Sides} {v : Slope} → work ≡ runsOf (count g) (rise g ∷ fs)
+        → c ≡ cornersOf g t → s ≡ floatsAt g t → v ≡ slopeOf (count g) (g .state) work c s
+        → (alike (v .x) ≡ slopeX g t) × (alike (v .y) ≡ slopeY g t)
+    unfolding slopeOf slopeX slopeY
+    its-slope {work = work} fs {v = v} ew ec es ev =
+        let b = sound .nodes in
+        let l = floatsAt g t in
+        let k = cornersOf g t in
+        let q : v ≡ slopeOf (count g) (g .state) work k l = ev ∙ (λ i. slopeOf (count g) (g .state) work (ec i) (es i)) in (
+          ap (λ (u : Slope). alike (u .x)) q
+              ∙ (λ j. alike (slope (both-read fs (k .first) (b .first) ew j) (both-read fs (k .second) (b .second) ew j) (both-read fs (k .third) (b .third) ew j) (l .b1) (l .b2) (l .b3))),
+          ap (λ (u : Slope). alike (u .y)) q
+              ∙ (λ j. alike (slope (both-read fs (k .first) (b .first) ew j) (both-read fs (k .second) (b .second) ew j) (both-read fs (k .third) (b .third) ew j) (l .a1) (l .a2) (l .a3))),
+        )
+
+    -- ---- a turn of a pass over the triangles
+    module _ {c : Three ℕ} (ec : c ≡ cornersOf g t) where
+      pub sum-more : {v : Three Float} {work : List Float} → v ≡ sharesAt g t → work ≡ sumsTo g t → spread floating nan (past (0 * count g) c) v work ≡ sumsTo g (t + 1)
+      sum-more ev ew =
+          (λ i. spread floating nan (past (0 * count g) (ec i)) (ev i) (ew i))
+          ∙ gather-run floating nan (count g) (zero ∷ zero ∷ zero ∷ []) 0 (lit< tt) (cornersOf g) (sharesAt g) t (sound .nodes)
+
+      pub slope-more : {work : List Float} {s : Sides} {v : Slope} → work ≡ slopesTo g t → s ≡ floatsAt g t → v ≡ slopeOf (count g) (g .state) work c s
+          → spread floating nan (past (2 * count g) c) (alike (v .y)) (spread floating nan (past (1 * count g) c) (alike (v .x)) work) ≡ slopesTo g (t + 1)
+      slope-more ew es ev =
+          let px = gathered floating (cornersOf g) (slopeX g) in
+          let py = gathered floating (cornersOf g) (slopeY g) in
+          let its = its-slope (px t ∷ py t ∷ []) ew ec es ev in
+          (λ i. spread floating nan (past (2 * count g) (ec i)) (its .1 i) (spread floating nan (past (1 * count g) (ec i)) (its .0 i) (ew i)))
+          ∙ ap (spread floating nan (past (2 * count g) (cornersOf g t)) (slopeY g t)) (gather-run floating nan (count g) (rise g ∷ zero ∷ py t ∷ []) 1 (lit< tt) (cornersOf g) (slopeX g) t (sound .nodes))
+          ∙ gather-run floating nan (count g) (rise g ∷ px (t + 1) ∷ zero ∷ []) 2 (lit< tt) (cornersOf g) (slopeY g) t (sound .nodes)
+
+      pub area-more : {d : ℕ} {l : List ℕ} → alike d ≡ areas g t → l ≡ table (count g) (S-to g t) → spread whole 0 c (alike d) l ≡ table (count g) (S-to g (t + 1))
+      area-more ed el = (λ i. spread whole 0 (ec i) (ed i) (el i)) ∙ gather-more whole 0 (count g) (cornersOf g) (areas g) t (sound .nodes)
+
+  -- ---- a sum S is small at each place, and past the end it is 0: so there is room for one more area at each corner
+  small-sum : (t i : ℕ) → t ≤ E (g .mesh) → S-to g t i ≤ 60000000000 * t
   small-sum t i h =
-      gathered-le 20000000000 (corners (s .tri)) (λ k. alike (area (s .x) (s .y) (s .tri) k)) t i
-      (λ k l. let most = ready .sound k (omega arith) .most in record { first = most; second = most; third = most })
+      gathered-le 20000000000 (cornersOf g) (areas g) t i
+      (λ k l. let most = z .shape .triangles k (omega arith) .most in record { first = most; second = most; third = most })
 
-  pub S-small : (t i : ℕ) → t ≤ triangles s → getD (table (count s) (S-to s t)) i 0 ≤ 60000000000 * t
-  S-small t i h = go (ltb i (count s)) refl
+  S-small : (t i : ℕ) → t ≤ E (g .mesh) → getD (table (count g) (S-to g t)) i 0 ≤ 60000000000 * t
+  S-small t i h = go (ltb i (count g)) refl
     where
-      go : (b : Bool) → ltb i (count s) ≡ b → getD (table (count s) (S-to s t)) i 0 ≤ 60000000000 * t
-      go true e = rw (getD-table (count s) (S-to s t) i 0 (ltb-true i (count s) e)) (small-sum t i h)
+      go : (b : Bool) → ltb i (count g) ≡ b → getD (table (count g) (S-to g t)) i 0 ≤ 60000000000 * t
+      go true e = rw (getD-table (count g) (S-to g t) i 0 (ltb-true i (count g) e)) (small-sum t i h)
       go false e =
-          rw (List·getD-eq-default (table (count s) (S-to s t)) 0 {n = i} (rw (length-table (count s) (S-to s t)) (ltb-false i (count s) e))) (omega arith)
+          rw (List·getD-eq-default (table (count g) (S-to g t)) 0 {n = i} (rw (length-table (count g) (S-to g t)) (ltb-false i (count g) e))) (omega arith)
 
-  -- so there is room for one more area at each corner, and each whole sum is exact
-  pub S-room : (t d i : ℕ) (l : List ℕ) → t < triangles s → d ≡ area (s .x) (s .y) (s .tri) t → l ≡ table (count s) (S-to s t) → getD l i 0 + 3 * d < 2 ^ 53
-  S-room t d i l h e el = rw (el, e) (omega (arith, S-small t i (omega arith), ready .sound t h .most, ready .few))
+  pub S-room : (t i : ℕ) {d : ℕ} {l : List ℕ} → t < E (g .mesh) → alike d ≡ areas g t → l ≡ table (count g) (S-to g t) → getD l i 0 + 3 * d < 2 ^ 53
+  S-room t i h ed el =
+      let e = ap (λ (v : Three ℕ). v .first) ed in
+      rw (el, e) (omega (arith, S-small t i (omega arith), z .shape .triangles t h .most, z .shape .sized .most-triangles))
 
--- ---- Px and Py
-module _ (w : Sloping) (z : SlopingFits w) where
-  pub slope-long : (t : ℕ) → length (slopeRoom w t) ≡ 3 * length (w .x)
-  slope-long t = three-length (length (w .x)) (w .rise) _ _ (z .rise) (length-table _ _) (length-table _ _)
+  -- ---- node i, as it is read, and a turn of a pass over the nodes
+  module _ (i : ℕ) (h : i < count g) {sums : List ℕ} (es : sums ≡ table (count g) (S g)) where
+    its-S : getD sums i 0 ≡ S g i
+    its-S = ap (λ (l : List ℕ). getD l i 0) es ∙ getD-table (count g) (S g) i 0 h
 
-  -- a triangle reads the first run alone
-  front : (t i : ℕ) → i < length (w .x) → getD (slopeRoom w t) i nan ≡ getD (w .rise) i nan
-  front t i h = read-first (length (w .x)) (w .rise) _ _ (z .rise) (length-table _ _) (length-table _ _) i nan h
+    pub its-rise : {work : List Float} {c : Node} {v : Float} → work ≡ risesTo g i → c ≡ node g i
+        → v ≡ riseOf (g .p) (kindOf g i) (g .forcing .elevation) c (getD sums i 0) (inRun (count g) 0 work i) → v ≡ rise g i
+    unfolding rise
+    its-rise ew ec ev =
+        let r = ap (λ (l : List Float). inRun (count g) 0 l i) ew ∙ run-read (count g) (turned i (rise g) (R g) ∷ zero ∷ zero ∷ []) 0 i nan (lit< tt) h ∙ turn-here (rise g) (R g) i in
+        ev ∙ (λ j. riseOf (g .p) (kindOf g i) (g .forcing .elevation) (ec j) (its-S j) (r j))
 
-  slope-front : (t : ℕ) (c : Three ℕ) (s : Sides) → Below c (length (w .x))
-      → slopeOf (length (w .x)) (w .state) (slopeRoom w t) c s ≡ slopeOf (length (w .x)) (w .state) (w .rise) c s
-  unfolding slopeOf
-  slope-front t c s h = rw (front t (c .first) (h .first), front t (c .second) (h .second), front t (c .third) (h .third))
+    pub its-flow : {work : List Float} {v : Flow} → work ≡ flowsTo g i
+        → v ≡ flowOf (g .p) (kindOf g i) (pushOf (node g i) (g .wind) (g .forcing) (getD sums i 0) (inRun (count g) 0 work i) (inRun (count g) 1 work i) (inRun (count g) 2 work i))
+        → v ≡ flowAt g i
+    unfolding flowAt
+    its-flow ew ev =
+        let fs = rise g ∷ turned i (U′ g) (Px g) ∷ turned i (V′ g) (Py g) ∷ [] in
+        let rz = ap (λ (l : List Float). inRun (count g) 0 l i) ew ∙ run-read (count g) fs 0 i nan (lit< tt) h in
+        let rx = ap (λ (l : List Float). inRun (count g) 1 l i) ew ∙ run-read (count g) fs 1 i nan (lit< tt) h ∙ turn-here (U′ g) (Px g) i in
+        let ry = ap (λ (l : List Float). inRun (count g) 2 l i) ew ∙ run-read (count g) fs 2 i nan (lit< tt) h ∙ turn-here (V′ g) (Py g) i in
+        ev ∙ (λ j. flowOf (g .p) (kindOf g i) (pushOf (node g i) (g .wind) (g .forcing) (its-S j) (rz j) (rx j) (ry j)))
 
-  its-slope : (t : ℕ) → t < length (w .tri) / 3 → (work : List Float) (c : Three ℕ) (s : Sides) (v : Slope)
-      → work ≡ slopeRoom w t → c ≡ corners (w .tri) t → s ≡ floats (sides (w .x) (w .y) (corners (w .tri) t)) → v ≡ slopeOf (length (w .x)) (w .state) work c s
-      → v ≡ slopeIn w t
-  unfolding slopeIn
-  its-slope t h work c s v ew ec es ev =
-      ev ∙ (λ i. slopeOf (length (w .x)) (w .state) (ew i) (ec i) (es i)) ∙ slope-front t _ _ (z .sound t h .nodes)
+  module _ (i : ℕ) (h : i < count g) {work : List Float} where
+    pub rise-more : {v : Float} → work ≡ risesTo g i → v ≡ rise g i → set work (0 * count g + i) v ≡ risesTo g (i + 1)
+    rise-more {v} ew ev =
+        ap (λ (l : List Float). set l (0 * count g + i) v) ew ∙ run-turn (count g) (zero ∷ zero ∷ zero ∷ []) 0 (rise g) (R g) i v (lit< tt) h ev
 
-  pub slope-more : (t : ℕ) → t < length (w .tri) / 3 → (work : List Float) (c : Three ℕ) (s : Sides) (v : Slope)
-      → work ≡ slopeRoom w t → c ≡ corners (w .tri) t → s ≡ floats (sides (w .x) (w .y) (corners (w .tri) t)) → v ≡ slopeOf (length (w .x)) (w .state) work c s
-      → room (run (length (w .x)) 0 work ∷ spread floating nan c (alike (v .x)) (run (length (w .x)) 1 work) ∷ spread floating nan c (alike (v .y)) (run (length (w .x)) 2 work) ∷ [])
-      ≡ slopeRoom w (t + 1)
-  slope-more t h work c s v ew ec es ev =
-      let m = length (w .x) in
-      let px = table m (PxIn w t) in
-      let py = table m (PyIn w t) in
-      let lx : length px ≡ m = length-table _ _ in
-      let ly : length py ≡ m = length-table _ _ in
-      let q = its-slope t h work c s v ew ec es ev in
-      (λ i. room (
-      (ap (run m 0) ew ∙ run-first m (w .rise) px py (z .rise) lx ly) i
-      ∷ spread floating nan (ec i) (alike (q i .x)) ((ap (run m 1) ew ∙ run-second m (w .rise) px py (z .rise) lx ly) i)
-      ∷ spread floating nan (ec i) (alike (q i .y)) ((ap (run m 2) ew ∙ run-third m (w .rise) px py (z .rise) lx ly) i)
-      ∷ []))
-      ∙ (λ i. room (
-      w .rise
-      ∷ gather-more floating nan m (corners (w .tri)) (λ k. alike (slopeIn w k .x)) t (z .sound t h .nodes) i
-      ∷ gather-more floating nan m (corners (w .tri)) (λ k. alike (slopeIn w k .y)) t (z .sound t h .nodes) i
-      ∷ []))
+    pub flow-more : {v : Flow} → work ≡ flowsTo g i → v ≡ flowAt g i → set (set work (1 * count g + i) (v .u)) (2 * count g + i) (v .v) ≡ flowsTo g (i + 1)
+    flow-more {v} ew ev =
+        ap (λ (l : List Float). set (set l (1 * count g + i) (v .u)) (2 * count g + i) (v .v)) ew
+        ∙ ap (λ (l : List Float). set l (2 * count g + i) (v .v)) (run-turn (count g) (rise g ∷ zero ∷ turned i (V′ g) (Py g) ∷ []) 1 (U′ g) (Px g) i (v .u) (lit< tt) h (ap (λ (f : Flow). f .u) ev))
+        ∙ run-turn (count g) (rise g ∷ turned (i + 1) (U′ g) (Px g) ∷ zero ∷ []) 2 (V′ g) (Py g) i (v .v) (lit< tt) h (ap (λ (f : Flow). f .v) ev)
 
--- ---- U' and V'
-module _ (v : Moving) (ez : length (v .rise) ≡ length (v .h)) (ex : length (v .px) ≡ length (v .h)) (ey : length (v .py) ≡ length (v .h)) where
-  u-long : (k : ℕ) → k ≤ length (v .h) → length (upTo k (λ i. flowIn v i .u) (v .px)) ≡ length (v .h)
-  u-long k h = up-length k (λ i. flowIn v i .u) (v .px) (rw ex h) ∙ ex
+-- ---- before the first turn, and after the last
+module _ (g : Given) where
+  pub rise-none : sumRoom g ≡ risesTo g 0
+  rise-none = sym (ap (λ (f : ℕ → Float). runsOf (count g) (f ∷ zero ∷ zero ∷ [])) (turn-none (rise g) (R g)))
 
-  v-long : (k : ℕ) → k ≤ length (v .h) → length (upTo k (λ i. flowIn v i .v) (v .py)) ≡ length (v .h)
-  v-long k h = up-length k (λ i. flowIn v i .v) (v .py) (rw ey h) ∙ ey
+  pub rise-all : risesTo g (count g) ≡ riseRoom g
+  rise-all = run-same (count g) (zero ∷ zero ∷ zero ∷ []) 0 (turned (count g) (rise g) (R g)) (rise g) (turn-all (rise g) (R g) (count g))
 
-  pub flow-long : (k : ℕ) → k ≤ length (v .h) → length (flowRoom v k) ≡ 3 * length (v .h)
-  flow-long k h = three-length (length (v .h)) (v .rise) _ _ ez (u-long k h) (v-long k h)
+  pub flow-none : slopeRoom g ≡ flowsTo g 0
+  flow-none = λ j. runsOf (count g) (rise g ∷ sym (turn-none (U′ g) (Px g)) j ∷ sym (turn-none (V′ g) (Py g)) j ∷ [])
 
-  -- what node i reads is what the room held at the start
-  pub flow-read : (i : ℕ) → i < length (v .h) → (work : List Float) → work ≡ flowRoom v i → (f : Flow)
-      → f ≡ flowOf (v .p) (getD (v .kind) i 0)
-      (pushOf (nodeOf (v .h) (v .state) i) (v .wind) (v .new) (getD (v .sums) i 0) (getD work i nan) (getD work (length (v .h) + i) nan) (getD work (2 * length (v .h) + i) nan))
-      → f ≡ flowIn v i
-  unfolding flowIn
-  flow-read i h work e f q =
-      let n = length (v .h) in
-      let here : i ≤ n = omega arith in
-      let a = upTo i (λ k. flowIn v k .u) (v .px) in
-      let b = upTo i (λ k. flowIn v k .v) (v .py) in
-      let lx : i ≤ length (v .px) = omega (arith, ex) in
-      let ly : i ≤ length (v .py) = omega (arith, ey) in
-      let z = ap (λ (l : List Float). getD l i nan) e ∙ read-first n (v .rise) a b ez (u-long i here) (v-long i here) i nan h in
-      let x = ap (λ (l : List Float). getD l (n + i) nan) e ∙ read-second n (v .rise) a b ez (u-long i here) (v-long i here) i nan h ∙ up-ahead i (λ k. flowIn v k .u) (v .px) i nan (omega arith) lx in
-      let y = ap (λ (l : List Float). getD l (2 * n + i) nan) e ∙ read-third n (v .rise) a b ez (u-long i here) (v-long i here) i nan h ∙ up-ahead i (λ k. flowIn v k .v) (v .py) i nan (omega arith) ly in
-      q ∙ (λ j. flowOf (v .p) (getD (v .kind) i 0) (pushOf (nodeOf (v .h) (v .state) i) (v .wind) (v .new) (getD (v .sums) i 0) (z j) (x j) (y j)))
-
-  pub flow-more : (i : ℕ) → i < length (v .h) → (work : List Float) → work ≡ flowRoom v i → (f : Flow) → f ≡ flowIn v i
-      → room (run (length (v .h)) 0 work ∷ set (run (length (v .h)) 1 work) i (f .u) ∷ set (run (length (v .h)) 2 work) i (f .v) ∷ []) ≡ flowRoom v (i + 1)
-  flow-more i h work e f q =
-      let n = length (v .h) in
-      let here : i ≤ n = omega arith in
-      let a = upTo i (λ k. flowIn v k .u) (v .px) in
-      let b = upTo i (λ k. flowIn v k .v) (v .py) in
-      let lx : i < length (v .px) = omega (arith, ex) in
-      let ly : i < length (v .py) = omega (arith, ey) in
-      (λ j. room (
-      (ap (run n 0) e ∙ run-first n (v .rise) a b ez (u-long i here) (v-long i here)) j
-      ∷ set ((ap (run n 1) e ∙ run-second n (v .rise) a b ez (u-long i here) (v-long i here)) j) i (q j .u)
-      ∷ set ((ap (run n 2) e ∙ run-third n (v .rise) a b ez (u-long i here) (v-long i here)) j) i (q j .v)
-      ∷ []))
-      ∙ (λ j. room (v .rise ∷ up-more i (λ k. flowIn v k .u) (v .px) lx j ∷ up-more i (λ k. flowIn v k .v) (v .py) ly j ∷ []))
-
-  pub flow-none : room (v .rise ∷ v .px ∷ v .py ∷ []) ≡ flowRoom v 0
-  flow-none = λ j. room (v .rise ∷ sym (up-none (λ k. flowIn v k .u) (v .px)) j ∷ sym (up-none (λ k. flowIn v k .v) (v .py)) j ∷ [])
+  pub flow-all : flowsTo g (count g) ≡ flowRoom g
+  flow-all =
+      run-same (count g) (rise g ∷ zero ∷ turned (count g) (V′ g) (Py g) ∷ []) 1 (turned (count g) (U′ g) (Px g)) (U′ g) (turn-all (U′ g) (Px g) (count g))
+      ∙ run-same (count g) (rise g ∷ U′ g ∷ zero ∷ []) 2 (turned (count g) (V′ g) (Py g)) (V′ g) (turn-all (V′ g) (Py g) (count g))

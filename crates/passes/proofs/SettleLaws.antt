@@ -1,89 +1,100 @@
--- What is known past rows 1 to 10 and what else was asked, and the outcomes of the passes.
-use Prim.Native.Nat.{ℕ, _*_}
-use mathlib.Core.Path.{_≡_, sym, ap, _∙_}
+-- What the passes leave together, and the outcomes of `settle`.
+use Prim.Native.Nat.{ℕ, _*_, _<_}
+use mathlib.Core.Path.{_≡_, ap, _∙_}
 use mathlib.Core.Bool.{true, cond, _&&_}
-use mathlib.Core.List.{List}
+use mathlib.Core.List.{List, [], _∷_}
 use native.Mathlib.Nat.{one-mul}
 use borrow.Author.Tests.{eqb-true, eq-eqb, ne-eqb}
-use lib.Dec.{eqb}
-use lib.ListN.{length}
-use lib.Ieee.{Float}
+use lib.Dec.{eqb, lit<}
+use lib.ListN.{length, getD}
+use lib.Ieee.{Float, nan}
 use Rattle.lists.specs.declared.rows.Answer.{Answer}
+use Rattle.lists.specs.Numbers.{plus0}
 use Rattle.lists.specs.Table.{table, zeros}
-use Rattle.lists.specs.Runs.{isRuns}
+use Rattle.lists.specs.Runs.{isRuns, inRun, runsOf, withRun}
 use Rattle.lists.specs.Scan.{_then_}
-use Rattle.lists.proofs.ScanLaws.{then-first, other-number, both-left, both-right}
-use Rattle.equations.specs.declared.Parameters.{Parameters}
-use Rattle.equations.specs.declared.Wind.{Wind}
-use Rattle.equations.specs.declared.Forcing.{Forcing}
-use Rattle.mesh.specs.Lent.{Mesh, N}
-use Rattle.bounds.specs.State.{rows1to10}
-use Rattle.passes.specs.Equations.{nextState}
-use Rattle.passes.specs.Row13.{row13}
-use Rattle.passes.specs.Settle.{Rooms, roomy, settled, settlesTo, seaIn, settleOf}
-use Rattle.passes.specs.Passes.{solving, SolvingFits}
+use Rattle.lists.proofs.ScanLaws.{row-passed, then-first, other-number, both-left, both-right}
+use Rattle.lists.proofs.RunLaws.{run-read, run-put, run-same, runs-alike, as-runs}
+use Rattle.bounds.specs.State.{stateRuns, runRows}
 use Rattle.bounds.proofs.StateLaws.{AcceptedRun, accepted-run}
+use Rattle.passes.specs.Equations.{Given, count, rise, U′, V′, nextState}
+use Rattle.passes.specs.Row13.{row13}
+use Rattle.passes.specs.Settle.{Rooms, workRuns, row1Rooms, settled, settlesTo, settleOf}
+use Rattle.passes.specs.Private.{Fits, zero, clearRoom, flowRoom}
 
-module _ (m : Mesh) (p : Parameters) (state : List Float) (w : Wind) (f : Forcing) (also : Answer) (r : Rooms) where
-  abbrev pub before : Answer
-  before = rows1to10 (roomy r (N m)) m p state then also
+-- a cleared work room, as runs
+pub cleared-room : (g : Given) (long : ℕ) {now : List Float} → long ≡ workRuns * count g → now ≡ zeros long → now ≡ clearRoom g
+unfolding table
+cleared-room g long e q = q ∙ ap zeros e ∙ runs-alike (count g) workRuns plus0
 
-  abbrev pub last : Answer
-  last = row13 (seaIn m p state w) (m .kind) f
+-- four runs written one after the other
+pub published : (n : ℕ) (next : List Float) (a b c d : ℕ → Float) → length next ≡ stateRuns * n
+    → withRun n 3 d (withRun n 2 c (withRun n 1 b (withRun n 0 a next))) ≡ runsOf n (a ∷ b ∷ c ∷ d ∷ [])
+unfolding table
+published n next a b c d e =
+    let l = inRun n 1 next in
+    let m = inRun n 2 next in
+    let k = inRun n 3 next in
+    ap (λ (r : List Float). withRun n 3 d (withRun n 2 c (withRun n 1 b (withRun n 0 a r)))) (as-runs n nan 4 next e)
+    ∙ ap (λ (r : List Float). withRun n 3 d (withRun n 2 c (withRun n 1 b r))) (run-put n (inRun n 0 next ∷ l ∷ m ∷ k ∷ []) 0 a (lit< tt))
+    ∙ ap (λ (r : List Float). withRun n 3 d (withRun n 2 c r)) (run-put n (a ∷ l ∷ m ∷ k ∷ []) 1 b (lit< tt))
+    ∙ ap (λ (r : List Float). withRun n 3 d r) (run-put n (a ∷ b ∷ m ∷ k ∷ []) 2 c (lit< tt))
+    ∙ run-put n (a ∷ b ∷ c ∷ k ∷ []) 3 d (lit< tt)
 
-  abbrev pub new : List Float
-  new = nextState (seaIn m p state w) (m .kind) f
+-- the next state, from z in the state and what the work room holds
+pub next-state : (g : Given) {next work : List Float} → work ≡ flowRoom g
+    → next ≡ runsOf (count g) (inRun (count g) 1 (g .state) ∷ inRun (count g) 0 work ∷ inRun (count g) 1 work ∷ inRun (count g) 2 work ∷ []) → next ≡ nextState g
+unfolding nextState
+next-state g ew en =
+    let n = count g in
+    let z = inRun n 1 (g .state) in
+    let fs = rise g ∷ U′ g ∷ V′ g ∷ [] in
+    let r = flowRoom g in
+    let read : (k : ℕ) → k < 3 → (i : ℕ) → i < n → inRun n k r i ≡ getD fs k (λ _. nan) i = λ k h i l. run-read n fs k i nan h l in
+    en
+    ∙ ap (λ (w : List Float). runsOf n (z ∷ inRun n 0 w ∷ inRun n 1 w ∷ inRun n 2 w ∷ [])) ew
+    ∙ run-same n (z ∷ zero ∷ inRun n 1 r ∷ inRun n 2 r ∷ []) 1 (inRun n 0 r) (rise g) (read 0 (lit< tt))
+    ∙ run-same n (z ∷ rise g ∷ zero ∷ inRun n 2 r ∷ []) 2 (inRun n 1 r) (U′ g) (read 1 (lit< tt))
+    ∙ run-same n (z ∷ rise g ∷ U′ g ∷ zero ∷ []) 3 (inRun n 2 r) (V′ g) (read 2 (lit< tt))
 
-  -- ---- refused before anything is worked out
-  pub stopped : (a : Answer) → a ≡ before → (a .number ≡ 0 → ⊥) → record { answer = a; rooms = r } ≡ settleOf m p state w f also r
+-- ---- the outcomes
+module _ (g : Given) (also : Answer) (r : Rooms) where
+  abbrev pub asked : Answer
+  asked = runRows (row1Rooms r (count g)) (g .mesh) (g .p) (g .state) then also
+
+  -- refused before anything is worked out
+  pub stopped : {a : Answer} → a ≡ asked → (a .number ≡ 0 → ⊥) → record { answer = a; rooms = r } ≡ settleOf g also r
   unfolding settleOf settlesTo
-  stopped a e h = (λ i. record { answer = e i; rooms = r }) ∙ rw (ne-eqb _ _ (other-number e h))
+  stopped e h = (λ i. record { answer = e i; rooms = r }) ∙ rw (ne-eqb _ _ (other-number e h))
 
-  module _ (ok : before .number ≡ 0) where
-    run : AcceptedRun (roomy r (N m)) m p state
+  module _ (ok : asked .number ≡ 0) where
+    run : AcceptedRun (row1Rooms r (count g)) (g .mesh) (g .p) (g .state)
     run = accepted-run _ _ _ _ (then-first _ _ ok)
 
-    -- the depths are as many as the nodes
-    depths : length (m .h) ≡ N m
-    depths = run .mesh .sized .h
+    pub fits : Fits g
+    fits = record { shape = run .shape; state = run .long }
 
-    first-two : (isRuns (length (r .next)) 4 (N m) && isRuns (length (r .work)) 3 (N m)) ≡ true
-    first-two = both-left _ (isRuns (length (r .sums)) 1 (N m)) (run .others)
+    all-three : (isRuns (length (r .next)) stateRuns (count g) && isRuns (length (r .work)) workRuns (count g) && isRuns (length (r .sums)) 1 (count g)) ≡ true
+    all-three = row-passed _ 0 0 (run .others)
 
-    pub next-long : length (r .next) ≡ 4 * length (m .h)
-    next-long = eqb-true _ _ (both-left _ (isRuns (length (r .work)) 3 (N m)) first-two) ∙ ap (λ (n : ℕ). 4 * n) (sym depths)
+    first-two : (isRuns (length (r .next)) stateRuns (count g) && isRuns (length (r .work)) workRuns (count g)) ≡ true
+    first-two = both-left _ (isRuns (length (r .sums)) 1 (count g)) all-three
 
-    pub work-long : length (r .work) ≡ 3 * length (m .h)
-    work-long = eqb-true _ _ (both-right (isRuns (length (r .next)) 4 (N m)) _ first-two) ∙ ap (λ (n : ℕ). 3 * n) (sym depths)
+    pub next-long : length (r .next) ≡ stateRuns * count g
+    next-long = eqb-true _ _ (both-left _ (isRuns (length (r .work)) workRuns (count g)) first-two)
 
-    pub sums-long : length (r .sums) ≡ length (m .h)
+    pub work-long : length (r .work) ≡ workRuns * count g
+    work-long = eqb-true _ _ (both-right (isRuns (length (r .next)) stateRuns (count g)) _ first-two)
+
+    pub sums-long : length (r .sums) ≡ count g
     sums-long =
-        eqb-true _ _ (both-right (isRuns (length (r .next)) 4 (N m) && isRuns (length (r .work)) 3 (N m)) _ (run .others))
-        ∙ one-mul (N m)
-        ∙ sym depths
+        eqb-true _ _ (both-right (isRuns (length (r .next)) stateRuns (count g) && isRuns (length (r .work)) workRuns (count g)) _ all-three)
+        ∙ one-mul (count g)
 
-    pub solving-fits : SolvingFits (solving (seaIn m p state w) (m .kind) f)
-    solving-fits =
-        let a = run .mesh in
-        record {
-          ready = record {
-            x = sym depths;
-            y = a .sized .y;
-            tri = a .sized .tri;
-            state = run .long ∙ ap (λ (n : ℕ). 4 * n) (sym depths);
-            few = a .sized .most-triangles;
-            sound = a .triangles;
-          };
-          kind = a .sized .kind ∙ sym depths;
-        }
-
-    -- ---- worked out: what the equations leave is zero but for the next state
-    pub worked : (a : Answer) → a ≡ last → (next work : List Float) (sums : List ℕ) → next ≡ cond (eqb (a .number) 0) new (r .next)
-        → work ≡ zeros (3 * length (m .h)) → sums ≡ table (length (m .h)) (λ _. 0)
-        → settled a next work sums ≡ settleOf m p state w f also r
+    -- worked out: what is left is zero but for the next state
+    pub worked : {a : Answer} {next work : List Float} {sums : List ℕ} → a ≡ row13 g → next ≡ cond (eqb (a .number) 0) (nextState g) (r .next)
+        → work ≡ zeros (workRuns * count g) → sums ≡ table (count g) (λ _. 0)
+        → settled a next work sums ≡ settleOf g also r
     unfolding settleOf settlesTo
-    worked a e next work sums en ew es =
-        (λ i. settled (e i) ((en ∙ ap (λ (b : Answer). cond (eqb (b .number) 0) new (r .next)) e) i)
-        ((ew ∙ ap (λ (n : ℕ). zeros (3 * n)) depths) i)
-        ((es ∙ ap (λ (n : ℕ). table n (λ _. 0)) depths) i))
-        ∙ rw (eq-eqb _ _ ok)
+    worked e en ew es =
+        (λ i. settled (e i) ((en ∙ ap (λ (b : Answer). cond (eqb (b .number) 0) (nextState g) (r .next)) e) i) (ew i) (es i)) ∙ rw (eq-eqb _ _ ok)

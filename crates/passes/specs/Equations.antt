@@ -1,17 +1,17 @@
 -- Document 01, "Elevation" and "Velocity" over a mesh: what a node sums over its triangles, z', U' and V' of each node, node by node.
-use Prim.Native.Nat.{ℕ, _/_}
+use Prim.Native.Nat.{ℕ}
 use mathlib.Core.Bool.{cond}
 use mathlib.Core.List.{List, [], _∷_}
 use lib.Dec.{eqb}
-use lib.IntN.{ℤ, pos}
-use lib.ListN.{length, getD}
+use lib.IntN.{pos}
+use lib.ListN.{getD}
 use lib.Ieee.{Float, binary64, ofInt}
-use Rattle.lists.specs.Table.{table}
-use Rattle.lists.specs.Runs.{room}
 use Rattle.lists.specs.Numbers.{plus0}
+use Rattle.lists.specs.Runs.{runsOf}
 use Rattle.lists.specs.Gather.{Three, alike, Adding, gathered}
 use Rattle.equations.specs.declared.Parameters.{Parameters}
 use Rattle.equations.specs.declared.Wind.{Wind}
+use Rattle.equations.specs.declared.Forcing.{Forcing}
 use Rattle.equations.specs.declared.Node.{Node}
 use Rattle.equations.specs.declared.Sides.{Sides}
 use Rattle.equations.specs.declared.Shares.{Shares}
@@ -20,12 +20,11 @@ use Rattle.equations.specs.declared.Flow.{Flow}
 use Rattle.equations.specs.Operations.{_⊕_}
 use Rattle.equations.specs.Elevation.{shares, slope, z*, L, z′}
 use Rattle.equations.specs.Velocity.{flow}
-use Rattle.equations.specs.declared.Forcing.{Forcing}
-use Rattle.mesh.specs.Lent.{corners}
-use Rattle.mesh.specs.Geometry.{sides, S}
 use Rattle.geometry.specs.Geometry.{floats}
+use Rattle.mesh.specs.Lent.{Mesh, N, E, corners}
+use Rattle.mesh.specs.Geometry.{sides}
+use Rattle.mesh.specs.Geometry as G
 use Rattle.bounds.specs.State.{nodeOf}
-use Rattle.passes.specs.State.{newWind}
 
 -- ---- single values
 
@@ -37,8 +36,9 @@ riseOf p kind elevation c s r = cond (eqb kind 1) elevation (z′ p (L (ofInt bi
 unfoldable pub flowOf : Parameters → ℕ → Push → Flow
 flowOf p kind x = cond (eqb kind 2) (record { u = plus0; v = plus0 }) (flow p x)
 
-abbrev pub pushOf : Node → Wind → Wind → ℕ → Float → Float → Float → Push
-pushOf c w w′ s rise px py = record {
+-- from the present wind and the forcing's new one
+abbrev pub pushOf : Node → Wind → Forcing → ℕ → Float → Float → Float → Push
+pushOf c w f s rise px py = record {
   h = c .h;
   z = c .z;
   rise = rise;
@@ -49,8 +49,8 @@ pushOf c w w′ s rise px py = record {
   s = ofInt binary64 (pos s);
   wx = w .x;
   wy = w .y;
-  «wx_new» = w′ .x;
-  «wy_new» = w′ .y;
+  «wx_new» = f .wx;
+  «wy_new» = f .wy;
 }
 
 -- ---- over a mesh
@@ -62,86 +62,86 @@ floating = record { start = plus0; plus = _⊕_ }
 abbrev pub threeOf : Shares → Three Float
 threeOf s = record { first = s .r1; second = s .r2; third = s .r3 }
 
--- what the equations read: the mesh's coordinates, triangles and depths, the state, the parameters and the present wind
-pub record Sea : Type 0 where
-  pub x : List ℤ
-  pub y : List ℤ
-  pub tri : List ℕ
-  pub h : List Float
-  pub state : List Float
+-- what a step reads: a mesh and parameters, the state, the present wind, and a forcing
+pub record Given : Type 0 where
+  pub mesh : Mesh
   pub p : Parameters
+  pub state : List Float
   pub wind : Wind
+  pub forcing : Forcing
 
-abbrev pub sea : Parameters → Wind → List ℤ → List ℤ → List ℕ → List Float → List Float → Sea
-sea p w x y tri h state = record { x = x; y = y; tri = tri; h = h; state = state; p = p; wind = w }
+abbrev pub given : Mesh → Parameters → List Float → Wind → Forcing → Given
+given m p state w f = record { mesh = m; p = p; state = state; wind = w; forcing = f }
 
-module _ (s : Sea) where
+module _ (g : Given) where
   abbrev pub count : ℕ
-  count = length (s .h)
-
-  abbrev pub triangles : ℕ
-  triangles = length (s .tri) / 3
+  count = N (g .mesh)
 
   abbrev pub node : ℕ → Node
-  node = nodeOf (s .h) (s .state)
+  node = nodeOf count (g .mesh .h) (g .state)
+
+  -- the kind of node i
+  abbrev pub kindOf : ℕ → ℕ
+  kindOf i = getD (g .mesh .kind) i 0
+
+  abbrev pub cornersOf : ℕ → Three ℕ
+  cornersOf = corners (g .mesh .tri)
 
   -- a, b and D of triangle t as floats
-  abbrev pub sidesAt : ℕ → Sides
-  sidesAt t = floats (sides (s .x) (s .y) (corners (s .tri) t))
+  abbrev pub floatsAt : ℕ → Sides
+  floatsAt t = floats (sides (g .mesh .x) (g .mesh .y) (cornersOf t))
 
   -- what the corners of triangle t receive
   unfoldable pub sharesAt : ℕ → Three Float
   sharesAt t =
-      let c = corners (s .tri) t in
-      threeOf (shares (s .p) (s .wind) (node (c .first)) (node (c .second)) (node (c .third)) (sidesAt t))
+      let c = cornersOf t in
+      threeOf (shares (g .p) (g .wind) (node (c .first)) (node (c .second)) (node (c .third)) (floatsAt t))
 
   -- "R of a node starts at +0 and adds its corner values by ascending triangle number."
   abbrev pub R : ℕ → Float
-  R = gathered floating (corners (s .tri)) sharesAt triangles
+  R = gathered floating cornersOf sharesAt (E (g .mesh))
 
   -- S of a node, in whole numbers
-  abbrev pub Sums : ℕ → ℕ
-  Sums = S (s .x) (s .y) (s .tri)
+  abbrev pub S : ℕ → ℕ
+  S = G.S (g .mesh .x) (g .mesh .y) (g .mesh .tri)
 
-  module _ (kind : List ℕ) (f : Forcing) where
-    -- z' of node i
-    unfoldable pub rise : ℕ → Float
-    rise i = riseOf (s .p) (getD kind i 0) (f .elevation) (node i) (Sums i) (R i)
+  -- z' of node i
+  unfoldable pub rise : ℕ → Float
+  rise i = riseOf (g .p) (kindOf i) (g .forcing .elevation) (node i) (S i) (R i)
 
-    -- "((z1+z1')·b1 + (z2+z2')·b2) + (z3+z3')·b3", of triangle t with the b or the a of its corners
-    abbrev pub both : ℕ → Float
-    both i = node i .z ⊕ rise i
+  -- "((z1+z1')·b1 + (z2+z2')·b2) + (z3+z3')·b3", of triangle t with the b or the a of its corners
+  abbrev pub both : ℕ → Float
+  both i = node i .z ⊕ rise i
 
-    abbrev pub slopeAt : (Sides → Three Float) → ℕ → Float
-    slopeAt across t =
-        let c = corners (s .tri) t in
-        let w = across (sidesAt t) in
-        slope (both (c .first)) (both (c .second)) (both (c .third)) (w .first) (w .second) (w .third)
+  abbrev pub slopeAt : (Sides → Three Float) → ℕ → Float
+  slopeAt across t =
+      let c = cornersOf t in
+      let w = across (floatsAt t) in
+      slope (both (c .first)) (both (c .second)) (both (c .third)) (w .first) (w .second) (w .third)
 
-    -- "Px starts at +0 and adds" the slope of both "by ascending triangle; Py with a."
-    unfoldable pub slopeX : ℕ → Three Float
-    slopeX t = alike (slopeAt (λ l. record { first = l .b1; second = l .b2; third = l .b3 }) t)
+  -- "Px starts at +0 and adds" the slope of both "by ascending triangle; Py with a."
+  unfoldable pub slopeX : ℕ → Three Float
+  slopeX t = alike (slopeAt (λ l. record { first = l .b1; second = l .b2; third = l .b3 }) t)
 
-    unfoldable pub slopeY : ℕ → Three Float
-    slopeY t = alike (slopeAt (λ l. record { first = l .a1; second = l .a2; third = l .a3 }) t)
+  unfoldable pub slopeY : ℕ → Three Float
+  slopeY t = alike (slopeAt (λ l. record { first = l .a1; second = l .a2; third = l .a3 }) t)
 
-    abbrev pub Px : ℕ → Float
-    Px = gathered floating (corners (s .tri)) slopeX triangles
+  abbrev pub Px : ℕ → Float
+  Px = gathered floating cornersOf slopeX (E (g .mesh))
 
-    abbrev pub Py : ℕ → Float
-    Py = gathered floating (corners (s .tri)) slopeY triangles
+  abbrev pub Py : ℕ → Float
+  Py = gathered floating cornersOf slopeY (E (g .mesh))
 
-    -- U' and V' of node i
-    unfoldable pub flowAt : ℕ → Flow
-    flowAt i =
-        flowOf (s .p) (getD kind i 0) (pushOf (node i) (s .wind) (newWind f) (Sums i) (rise i) (Px i) (Py i))
+  -- U' and V' of node i
+  unfoldable pub flowAt : ℕ → Flow
+  flowAt i = flowOf (g .p) (kindOf i) (pushOf (node i) (g .wind) (g .forcing) (S i) (rise i) (Px i) (Py i))
 
-    abbrev pub U′ : ℕ → Float
-    U′ i = flowAt i .u
+  abbrev pub U′ : ℕ → Float
+  U′ i = flowAt i .u
 
-    abbrev pub V′ : ℕ → Float
-    V′ i = flowAt i .v
+  abbrev pub V′ : ℕ → Float
+  V′ i = flowAt i .v
 
-    -- "The next state is z, z', U', V'"
-    unfoldable pub nextState : List Float
-    nextState = room (table count (λ i. node i .z) ∷ table count rise ∷ table count U′ ∷ table count V′ ∷ [])
+  -- "The next state is z, z', U', V'"
+  unfoldable pub nextState : List Float
+  nextState = runsOf count ((λ i. node i .z) ∷ rise ∷ U′ ∷ V′ ∷ [])

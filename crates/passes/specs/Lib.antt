@@ -1,5 +1,4 @@
-pub mod State
 pub mod Equations
 pub mod Row13
 pub mod Settle
-pub mod Passes
+pub mod Private

@@ -13,146 +13,40 @@ use geometry::Corners;
 use geometry::Places;
 use lists::rows;
 use lists::rows::Answer;
-use lists::slices;
 ghost use mathlib.Core.Path.{_≡_};
 ghost use Prim.Native.Nat.{_*_};
 ghost use lib.ListN.{length};
-ghost use Rattle.lists.specs.Table.{table, zeros};
-ghost use Rattle.lists.specs.Scan.{scan, clean};
+ghost use Rattle.lists.specs.Table.{table};
 ghost use Rattle.lists.specs.Gather.{Below};
 ghost use Rattle.equations.specs.Elevation.{shares};
-ghost use Rattle.equations.specs.Outcomes.{ofRise, answerOf};
 ghost use Rattle.geometry.specs.Geometry.{nodesOf, sidesAt, nearFloats};
-ghost use Rattle.bounds.specs.State.{nodeOf};
-ghost use Rattle.passes.specs.Equations.{Sea, sea, count, R, Sums, rise, riseOf};
-ghost use Rattle.passes.specs.Passes.{Ready, Rising, rising, RisingFits, riseIn, heightAt, levelIn, Solving, solving, SolvingFits, risenRoom};
-ghost use Rattle.passes.specs.Row13.{row13Level};
+ghost use Rattle.mesh.specs.Lent.{mesh};
+ghost use Rattle.bounds.specs.State.{stateRuns, nodeOf};
+ghost use Rattle.passes.specs.Equations.{Given, given, count, S, riseOf};
+ghost use Rattle.passes.specs.Row13.{riseRow, riseRows};
+ghost use Rattle.passes.specs.Private.{Fits, clearRoom, sumRoom, riseRoom};
 
 // What the corners of a triangle receive.
-fn shares_of(p: Parameters, w: Wind, c: Corners, q: Places, h: &[f64], state: &[f64]) -> Shares
-    requires { ⌜ (Below (nodesOf c) (length (now h))) × (length (now state) ≡ 4 * length (now h)) ⌝ }
-    ensures { λ r. ⌜ r ≡ shares p w (nodeOf (now (h .entry)) (now (state .entry)) (c .n1)) (nodeOf (now (h .entry)) (now (state .entry)) (c .n2)) (nodeOf (now (h .entry)) (now (state .entry)) (c .n3)) (nearFloats (sidesAt q)) ⌝ }
+fn shares_of(
+    p: Parameters,
+    w: Wind,
+    c: Corners,
+    q: Places,
+    n: usize,
+    h: &[f64],
+    state: &[f64],
+) -> Shares
+    requires { ⌜ (Below (nodesOf c) n) × (length (now h) ≡ n) × (length (now state) ≡ stateRuns * n) ⌝ }
+    ensures { λ r. ⌜ r ≡ shares p w (nodeOf n (now (h .entry)) (now (state .entry)) (c .n1)) (nodeOf n (now (h .entry)) (now (state .entry)) (c .n2)) (nodeOf n (now (h .entry)) (now (state .entry)) (c .n3)) (nearFloats (sidesAt q)) ⌝ }
 {
-    let n1 = state::node_of(h, state, c.n1);
-    let n2 = state::node_of(h, state, c.n2);
-    let n3 = state::node_of(h, state, c.n3);
+    let n1 = state::node_of(n, h, state, c.n1);
+    let n2 = state::node_of(n, h, state, c.n2);
+    let n3 = state::node_of(n, h, state, c.n3);
     elevation::shares(p, w, n1, n2, n3, geometry::floats_of(q))
 }
 
-// R and S of every node, from zero.
-fn assemble(
-    r: &mut [f64],
-    sums: &mut [u64],
-    p: Parameters,
-    w: Wind,
-    x: &[i32],
-    y: &[i32],
-    tri: &[u16],
-    h: &[f64],
-    state: &[f64],
-)
-    ghost { Sea }
-    requires { λ s. ⌜ sea p w (now x) (now y) (now tri) (now h) (now state) ≡ s ⌝ }
-    requires { λ s. ⌜ Ready s ⌝ }
-    requires { λ s. ⌜ (now r ≡ zeros (count s)) × (now sums ≡ table (count s) (λ _. 0)) ⌝ }
-    ensures { λ s _. ⌜ (now (r .exit) ≡ table (count s) (R s)) × (now (sums .exit) ≡ table (count s) (Sums s)) ⌝ }
-{
-    let e = tri.len() / 3;
-    for t in 0..e {
-        let c = reading::corners_at(tri, t);
-        let q = reading::places_at(x, y, c);
-        sums::spread(r, c, shares_of(p, w, c, q, h, state));
-        sums::spread_area(sums, c, geometry::area_of(geometry::sides_of(q)));
-    }
-}
-
-// z' of a node, from its sums S and R. An open node's is chosen last, so that all nodes go one way.
-fn rise_of(p: Parameters, kind: u8, elevation: f64, c: Node, s: u64, r: f64) -> f64
-    ensures { λ z. ⌜ z ≡ riseOf p kind elevation c s r ⌝ }
-{
-    let l = elevation::lumped(geometry::sum_of(s), p.dt);
-    let risen = elevation::risen(p, l, c.z, c.z - c.earlier, r);
-    if kind == 1 { elevation } else { risen }
-}
-
-// Row 13 of a node's z'.
-fn height(h: f64, z: f64, i: usize) -> Answer
-    ensures { λ a. ⌜ a ≡ answerOf (ofRise h z) i ⌝ }
-{
-    outcomes::answer(outcomes::ofRise(h, z), i)
-}
-
-// R of every node becomes its z'; whether row 13 accepts every one. Nothing leaves the loop, so that it can be made in wide registers.
-fn rises(
-    r: &mut [f64],
-    p: Parameters,
-    elevation: f64,
-    kind: &[u8],
-    h: &[f64],
-    state: &[f64],
-    sums: &[u64],
-) -> bool
-    ghost { Rising }
-    requires { λ w. ⌜ rising p elevation (now kind) (now h) (now state) (now sums) (now r) ≡ w ⌝ }
-    requires { λ w. ⌜ RisingFits w ⌝ }
-    ensures { λ w all. ⌜ all ≡ clean (levelIn w) (length (w .h)) ⌝ }
-    ensures { λ w all. ⌜ now (r .exit) ≡ table (length (w .h)) (riseIn w) ⌝ }
-{
-    let mut all = true;
-    for i in 0..h.len() {
-        let c = state::node_of(h, state, i);
-        let z = rise_of(p, kind[i], elevation, c, sums[i], r[i]);
-        r[i] = z;
-        all = all & (height(c.h, z, i).number == 0);
-    }
-    all
-}
-
-// Row 13: the first z' that is out of range.
-fn heights(h: &[f64], z: &[f64]) -> Answer
-    requires { ⌜ length (now z) ≡ length (now h) ⌝ }
-    ensures { λ a. ⌜ a ≡ scan (heightAt (now (h .entry)) (now (z .entry))) (length (now (h .entry))) ⌝ }
-{
-    for i in 0..h.len() {
-        let answer = height(h[i], z[i], i);
-        if answer.number != 0 {
-            return answer;
-        }
-    }
-    rows::accept()
-}
-
-// z' of every node, and S in the sums, from zero.
-fn raise(
-    r: &mut [f64],
-    sums: &mut [u64],
-    x: &[i32],
-    y: &[i32],
-    tri: &[u16],
-    h: &[f64],
-    kind: &[u8],
-    p: Parameters,
-    state: &[f64],
-    w: Wind,
-    f: Forcing,
-) -> Answer
-    ghost { Solving }
-    requires { λ v. ⌜ solving (sea p w (now x) (now y) (now tri) (now h) (now state)) (now kind) f ≡ v ⌝ }
-    requires { λ v. ⌜ SolvingFits v ⌝ }
-    requires { λ v. ⌜ (now r ≡ zeros (count (v .sea))) × (now sums ≡ table (count (v .sea)) (λ _. 0)) ⌝ }
-    ensures { λ v a. ⌜ a ≡ scan (row13Level (v .sea) (v .kind) (v .f)) (count (v .sea)) ⌝ }
-    ensures { λ v a. ⌜ now (sums .exit) ≡ table (count (v .sea)) (Sums (v .sea)) ⌝ }
-    ensures { λ v a. ⌜ now (r .exit) ≡ table (count (v .sea)) (rise (v .sea) (v .kind) (v .f)) ⌝ }
-{
-    assemble(r, sums, p, w, x, y, tri, h, state);
-    if rises(r, p, f.elevation, kind, h, state, sums) {
-        return rows::accept();
-    }
-    heights(h, r)
-}
-
-// z' of every node in the first run of the work room, and S in the sums.
-pub(crate) fn levels(
+// R of every node in the first run of the work room, and S in the sums, from zero.
+pub(crate) fn assemble(
     work: &mut [f64],
     sums: &mut [u64],
     x: &[i32],
@@ -164,17 +58,70 @@ pub(crate) fn levels(
     state: &[f64],
     w: Wind,
     f: Forcing,
-) -> Answer
-    ghost { Solving }
-    requires { λ v. ⌜ solving (sea p w (now x) (now y) (now tri) (now h) (now state)) (now kind) f ≡ v ⌝ }
-    requires { λ v. ⌜ SolvingFits v ⌝ }
-    requires { λ v. ⌜ (length (now work) ≡ 3 * count (v .sea)) × (length (now sums) ≡ count (v .sea)) ⌝ }
-    ensures { λ v a. ⌜ a ≡ scan (row13Level (v .sea) (v .kind) (v .f)) (count (v .sea)) ⌝ }
-    ensures { λ v a. ⌜ now (sums .exit) ≡ table (count (v .sea)) (Sums (v .sea)) ⌝ }
-    ensures { λ v a. ⌜ now (work .exit) ≡ risenRoom v ⌝ }
+)
+    ghost { Given }
+    requires { λ g. ⌜ given (mesh (now x) (now y) (now tri) (now h) (now kind)) p (now state) w f ≡ g ⌝ }
+    requires { λ g. ⌜ Fits g ⌝ }
+    requires { λ g. ⌜ (now work ≡ clearRoom g) × (now sums ≡ table (count g) (λ _. 0)) ⌝ }
+    ensures { λ g _. ⌜ (now (work .exit) ≡ sumRoom g) × (now (sums .exit) ≡ table (count g) (S g)) ⌝ }
 {
-    let n = h.len();
-    slices::clear(work);
-    slices::clear_whole(sums);
-    raise(&mut work[0..n], sums, x, y, tri, h, kind, p, state, w, f)
+    let n = x.len();
+    let e = tri.len() / 3;
+    for t in 0..e {
+        let c = mesh::reading::corners_at(tri, t);
+        let q = reading::places_at(x, y, c);
+        sums::spread(work, 0 * n, c, shares_of(p, w, c, q, n, h, state));
+        sums::spread_area(sums, c, geometry::area_of(geometry::sides_of(q)));
+    }
+}
+
+// z' of a node, from its sums S and R. An open node's is chosen last, so that all nodes go one way.
+fn rise_of(p: Parameters, kind: u8, elevation: f64, c: Node, s: u64, r: f64) -> f64
+    ensures { λ z. ⌜ z ≡ riseOf p kind elevation c s r ⌝ }
+{
+    let l = elevation::lumped(geometry::sum_of(s), p.dt);
+    let rise = elevation::rise(p, l, c.z, c.z - c.earlier, r);
+    if kind == 1 { elevation } else { rise }
+}
+
+// Row 13 of a node's z'.
+fn rise_row(h: f64, z: f64, i: usize) -> Answer
+    ensures { λ a. ⌜ a ≡ riseRow h z i ⌝ }
+{
+    outcomes::answer(outcomes::of_rise(h, z), i)
+}
+
+// R of every node becomes its z', and row 13 is asked of it.
+pub(crate) fn rises(
+    work: &mut [f64],
+    sums: &[u64],
+    x: &[i32],
+    y: &[i32],
+    tri: &[u16],
+    h: &[f64],
+    kind: &[u8],
+    p: Parameters,
+    state: &[f64],
+    w: Wind,
+    f: Forcing,
+) -> Answer
+    ghost { Given }
+    requires { λ g. ⌜ given (mesh (now x) (now y) (now tri) (now h) (now kind)) p (now state) w f ≡ g ⌝ }
+    requires { λ g. ⌜ Fits g ⌝ }
+    requires { λ g. ⌜ (now work ≡ sumRoom g) × (now sums ≡ table (count g) (S g)) ⌝ }
+    ensures { λ g a. ⌜ (a ≡ riseRows g) × (now (work .exit) ≡ riseRoom g) ⌝ }
+{
+    let n = x.len();
+    let mut at = n;
+    for i in 0..n {
+        let c = state::node_of(n, h, state, i);
+        let z = rise_of(p, kind[i], f.elevation, c, sums[i], work[0 * n + i]);
+        work[0 * n + i] = z;
+        at = rows::failed_first(n, at, i, rise_row(c.h, z, i).number == 0);
+    }
+    if at < n {
+        rise_row(h[at], work[0 * n + at], at)
+    } else {
+        rows::accept()
+    }
 }

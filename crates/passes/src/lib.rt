@@ -1,10 +1,11 @@
-// The passes of a step: row 10, row 13, and the equations.
+// The engine by triangles: row 13 and the equations, after what is asked before them.
 pub(crate) mod elevation;
 pub(crate) mod reading;
 pub(crate) mod state;
 pub(crate) mod sums;
 pub(crate) mod velocity;
 
+use bounds::STATE_RUNS;
 use equations::Forcing;
 use equations::Parameters;
 use equations::Wind;
@@ -13,19 +14,24 @@ use lists::rows::Answer;
 use lists::slices;
 ghost use mathlib.Core.Path.{_≡_};
 ghost use mathlib.Core.Bool.{cond};
-ghost use mathlib.Core.List.{_++_};
-ghost use Prim.Native.Nat.{_*_};
+ghost use mathlib.Core.List.{[], _∷_};
+ghost use Prim.Native.Nat.{ℕ, suc, _*_, _<_, _≤_};
 ghost use lib.Dec.{eqb};
 ghost use lib.ListN.{length};
 ghost use Rattle.lists.specs.Table.{table, zeros};
-ghost use Rattle.lists.specs.Runs.{run};
+ghost use Rattle.lists.specs.Runs.{inRun, runsOf, withRun};
 ghost use Rattle.mesh.specs.Lent.{mesh};
-ghost use Rattle.passes.specs.Equations.{sea, count, nextState};
+ghost use Rattle.bounds.specs.State.{stateRuns};
+ghost use Rattle.passes.specs.Equations.{Given, given, count, nextState};
 ghost use Rattle.passes.specs.Row13.{row13};
-ghost use Rattle.passes.specs.Settle.{lentRooms, settled, settleOf};
-ghost use Rattle.passes.specs.Passes.{Solving, solving, SolvingFits, solvedRoom};
+ghost use Rattle.passes.specs.Settle.{workRuns, lentRooms, settled, settleOf};
+ghost use Rattle.passes.specs.Private.{Fits, flowRoom};
 
-// Row 13, with z', U' and V' of every node in the work room where it accepts.
+// The runs of a work room: R and then z', Px and then U', Py and then V'.
+pub const WORK_RUNS: usize = 3;
+
+// Row 13, with z', U' and V' of every node in the work room where it accepts. Every pass is lent all that a step reads, so that its contract can
+// name it as one.
 fn solve(
     work: &mut [f64],
     sums: &mut [u64],
@@ -39,33 +45,48 @@ fn solve(
     w: Wind,
     f: Forcing,
 ) -> Answer
-    ghost { Solving }
-    requires { λ v. ⌜ solving (sea p w (now x) (now y) (now tri) (now h) (now state)) (now kind) f ≡ v ⌝ }
-    requires { λ v. ⌜ SolvingFits v ⌝ }
-    requires { λ v. ⌜ (length (now work) ≡ 3 * count (v .sea)) × (length (now sums) ≡ count (v .sea)) ⌝ }
-    ensures { λ v a. ⌜ a ≡ row13 (v .sea) (v .kind) (v .f) ⌝ }
-    ensures { λ v a. ⌜ (a .number ≡ 0 → now (work .exit) ≡ solvedRoom v) ⌝ }
+    ghost { Given }
+    requires { λ g. ⌜ given (mesh (now x) (now y) (now tri) (now h) (now kind)) p (now state) w f ≡ g ⌝ }
+    requires { λ g. ⌜ Fits g ⌝ }
+    requires { λ g. ⌜ (length (now work) ≡ workRuns * count g) × (length (now sums) ≡ count g) ⌝ }
+    ensures { λ g a. ⌜ (a ≡ row13 g) × (a .number ≡ 0 → now (work .exit) ≡ flowRoom g) ⌝ }
 {
-    let level = elevation::levels(work, sums, x, y, tri, h, kind, p, state, w, f);
-    if level.number != 0 {
-        return level;
+    slices::clear(work);
+    slices::clear_whole(sums);
+    elevation::assemble(work, sums, x, y, tri, h, kind, p, state, w, f);
+    let rise = elevation::rises(work, sums, x, y, tri, h, kind, p, state, w, f);
+    if rise.number != 0 {
+        return rise;
     }
-    velocity::velocities(work, x, y, tri, h, kind, p, state, w, f, sums)
+    velocity::slopes(work, x, y, tri, h, kind, p, state, w, f);
+    velocity::flows(work, sums, x, y, tri, h, kind, p, state, w, f)
+}
+
+// Run b of `from` into run a of `to`.
+fn copy_run(to: &mut [f64], n: usize, a: usize, from: &[f64], b: usize)
+    requires { ⌜ (suc a * n ≤ length (now to)) × (suc b * n ≤ length (now from)) ⌝ }
+    ensures { λ _. ⌜ now (to .exit) ≡ withRun n a (inRun n b (now (from .entry))) (now (to .entry)) ⌝ }
+{
+    let here = a * n;
+    let past = here + n;
+    let its = b * n;
+    let end = its + n;
+    slices::copy(&mut to[here..past], &from[its..end]);
 }
 
 // The next state: z, and then z', U' and V' as the work room has them.
-fn publish(next: &mut [f64], state: &[f64], work: &[f64], n: usize)
-    requires { ⌜ (length (now next) ≡ 4 * n) × (length (now state) ≡ 4 * n) × (length (now work) ≡ 3 * n) ⌝ }
-    ensures { λ _. ⌜ now (next .exit) ≡ run n 1 (now (state .entry)) ++ now (work .entry) ⌝ }
+fn publish(next: &mut [f64], n: usize, state: &[f64], work: &[f64])
+    requires { ⌜ (length (now next) ≡ stateRuns * n) × (length (now state) ≡ stateRuns * n) × (length (now work) ≡ workRuns * n) ⌝ }
+    ensures { λ _. ⌜ now (next .exit) ≡ runsOf n (inRun n 1 (now (state .entry)) ∷ inRun n 0 (now (work .entry)) ∷ inRun n 1 (now (work .entry)) ∷ inRun n 2 (now (work .entry)) ∷ []) ⌝ }
 {
-    let second = 2 * n;
-    let end = 4 * n;
-    slices::copy(&mut next[0..n], &state[n..second]);
-    slices::copy(&mut next[n..end], work);
+    copy_run(next, n, 0, state, 1);
+    copy_run(next, n, 1, work, 0);
+    copy_run(next, n, 2, work, 1);
+    copy_run(next, n, 3, work, 2);
 }
 
-// The equations alone, after rows 1 to 12: row 13, and the next state where it accepts. The work room is left zero.
-fn advance(
+// Row 13, and the next state where it accepts. The work room is left zero.
+fn work_out(
     next: &mut [f64],
     work: &mut [f64],
     sums: &mut [u64],
@@ -79,24 +100,24 @@ fn advance(
     w: Wind,
     f: Forcing,
 ) -> Answer
-    ghost { Solving }
-    requires { λ v. ⌜ solving (sea p w (now x) (now y) (now tri) (now h) (now state)) (now kind) f ≡ v ⌝ }
-    requires { λ v. ⌜ SolvingFits v ⌝ }
-    requires { λ v. ⌜ (length (now next) ≡ 4 * count (v .sea)) × (length (now work) ≡ 3 * count (v .sea)) × (length (now sums) ≡ count (v .sea)) ⌝ }
-    ensures { λ v a. ⌜ a ≡ row13 (v .sea) (v .kind) (v .f) ⌝ }
-    ensures { λ v a. ⌜ now (next .exit) ≡ cond (eqb (a .number) 0) (nextState (v .sea) (v .kind) (v .f)) (now (next .entry)) ⌝ }
-    ensures { λ v a. ⌜ (now (work .exit) ≡ zeros (3 * count (v .sea))) × (now (sums .exit) ≡ table (count (v .sea)) (λ _. 0)) ⌝ }
+    ghost { Given }
+    requires { λ g. ⌜ given (mesh (now x) (now y) (now tri) (now h) (now kind)) p (now state) w f ≡ g ⌝ }
+    requires { λ g. ⌜ Fits g ⌝ }
+    requires { λ g. ⌜ (length (now next) ≡ stateRuns * count g) × (length (now work) ≡ workRuns * count g) × (length (now sums) ≡ count g) ⌝ }
+    ensures { λ g a. ⌜ (a ≡ row13 g) × (now (next .exit) ≡ cond (eqb (a .number) 0) (nextState g) (now (next .entry))) ⌝ }
+    ensures { λ g a. ⌜ (now (work .exit) ≡ zeros (workRuns * count g)) × (now (sums .exit) ≡ table (count g) (λ _. 0)) ⌝ }
 {
     let answer = solve(work, sums, x, y, tri, h, kind, p, state, w, f);
     if answer.number == 0 {
-        publish(next, state, work, h.len());
+        publish(next, x.len(), state, work);
     }
     slices::clear(work);
     slices::clear_whole(sums);
     answer
 }
 
-// Rows 1 to 10, then what else was asked, then row 13 and the next state in `next`. A refusal before 13 leaves all as found; 13 leaves the work room zero.
+// What a call on a run asks, then what else was asked, then row 13 and the next state in `next`. A refusal before 13 leaves all as found; 13 leaves
+// the work room zero.
 pub fn settle(
     next: &mut [f64],
     work: &mut [f64],
@@ -112,18 +133,16 @@ pub fn settle(
     f: Forcing,
     also: Answer,
 ) -> Answer
-    ensures { λ a. ⌜ settled a (now (next .exit)) (now (work .exit)) (now (sums .exit)) ≡ settleOf (mesh (now (x .entry)) (now (y .entry)) (now (tri .entry)) (now (h .entry)) (now (kind .entry))) p (now (state .entry)) w f also (lentRooms (now (next .entry)) (now (work .entry)) (now (sums .entry))) ⌝ }
+    ensures { λ a. ⌜ settled a (now (next .exit)) (now (work .exit)) (now (sums .exit)) ≡ settleOf (given (mesh (now (x .entry)) (now (y .entry)) (now (tri .entry)) (now (h .entry)) (now (kind .entry))) p (now (state .entry)) w f) also (lentRooms (now (next .entry)) (now (work .entry)) (now (sums .entry))) ⌝ }
 {
     let n = x.len();
-    let rooms = slices::is_runs(next.len(), 4, n)
-        & slices::is_runs(work.len(), 3, n)
+    let rooms = slices::is_runs(next.len(), STATE_RUNS, n)
+        & slices::is_runs(work.len(), WORK_RUNS, n)
         & slices::is_runs(sums.len(), 1, n);
-    let first = rows::first(
-        bounds::rows_to_10(rooms, x, y, tri, h, kind, p, state),
-        also,
-    );
+    let asked = rows::tested(rooms, 1, 0);
+    let first = rows::first(bounds::run_rows(asked, x, y, tri, h, kind, p, state), also);
     if first.number != 0 {
         return first;
     }
-    advance(next, work, sums, x, y, tri, h, kind, p, state, w, f)
+    work_out(next, work, sums, x, y, tri, h, kind, p, state, w, f)
 }

@@ -3,13 +3,12 @@ use equations::Node;
 ghost use mathlib.Core.Path.{_≡_};
 ghost use Prim.Native.Nat.{_*_, _<_};
 ghost use lib.ListN.{length};
-ghost use Rattle.bounds.specs.State.{nodeOf};
+ghost use Rattle.bounds.specs.State.{stateRuns, nodeOf};
 
-pub(crate) fn node_of(h: &[f64], state: &[f64], i: usize) -> Node
-    requires { ⌜ (i < length (now h)) × (length (now state) ≡ 4 * length (now h)) ⌝ }
-    ensures { λ r. ⌜ r ≡ nodeOf (now (h .entry)) (now (state .entry)) i ⌝ }
+pub(crate) fn node_of(n: usize, h: &[f64], state: &[f64], i: usize) -> Node
+    requires { ⌜ (i < n) × (length (now h) ≡ n) × (length (now state) ≡ stateRuns * n) ⌝ }
+    ensures { λ r. ⌜ r ≡ nodeOf n (now (h .entry)) (now (state .entry)) i ⌝ }
 {
-    let n = h.len();
     Node {
         h: h[i],
         earlier: state[0 * n + i],

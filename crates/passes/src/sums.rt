@@ -5,26 +5,26 @@ ghost use mathlib.Core.Path.{_≡_};
 ghost use Prim.Native.Nat.{ℕ, _+_, _*_, _^_, _<_};
 ghost use lib.ListN.{length, getD};
 ghost use lib.Ieee.{nan};
-ghost use Rattle.lists.specs.Gather.{Below, alike, whole, addedAt, spread};
+ghost use Rattle.lists.specs.Gather.{Below, alike, whole, past, addedAt, spread};
 ghost use Rattle.geometry.specs.Geometry.{nodesOf};
 ghost use Rattle.passes.specs.Equations.{threeOf, floating};
 
 // Adds a value at one place.
-fn add_at(r: &mut [f64], i: usize, v: f64)
-    requires { ⌜ i < length (now r) ⌝ }
-    ensures { λ _. ⌜ now (r .exit) ≡ addedAt floating nan (now (r .entry)) i v ⌝ }
+fn add_at(work: &mut [f64], at: usize, v: f64)
+    requires { ⌜ at < length (now work) ⌝ }
+    ensures { λ _. ⌜ now (work .exit) ≡ addedAt floating nan (now (work .entry)) at v ⌝ }
 {
-    r[i] = r[i] + v;
+    work[at] = work[at] + v;
 }
 
-// Adds a triangle's values at its corners.
-pub(crate) fn spread(r: &mut [f64], c: Corners, v: Shares)
-    requires { ⌜ Below (nodesOf c) (length (now r)) ⌝ }
-    ensures { λ _. ⌜ now (r .exit) ≡ spread floating nan (nodesOf c) (threeOf v) (now (r .entry)) ⌝ }
+// Adds a triangle's values at its corners, in the run that starts at place `at`.
+pub(crate) fn spread(work: &mut [f64], at: usize, c: Corners, v: Shares)
+    requires { ⌜ Below (past at (nodesOf c)) (length (now work)) ⌝ }
+    ensures { λ _. ⌜ now (work .exit) ≡ spread floating nan (past at (nodesOf c)) (threeOf v) (now (work .entry)) ⌝ }
 {
-    add_at(r, c.n1, v.r1);
-    add_at(r, c.n2, v.r2);
-    add_at(r, c.n3, v.r3);
+    add_at(work, at + c.n1, v.r1);
+    add_at(work, at + c.n2, v.r2);
+    add_at(work, at + c.n3, v.r3);
 }
 
 // Adds an area at one place.

@@ -1,28 +1,53 @@
-use Rattle.lists.proofs.ScanLaws.{same-number, stops, goes}
-use Rattle.passes.specs.Row13.{row13}
+use mathlib.Core.Path.{ap, _∙_}
+use Prim.Native.Nat.{ℕ}
 use borrow.Author.Needs.{needs}
+use Rattle.lists.specs.Table.{table}
+use Rattle.lists.proofs.ScanLaws.{same-number, stops, goes}
+use Rattle.mesh.specs.Lent.{mesh}
+use Rattle.passes.specs.Equations.{Given, given}
+use Rattle.passes.specs.Row13.{row13}
+use Rattle.passes.proofs.SettleLaws.{cleared-room}
 use Rattle.passes.proofs.solve.Statement.{statement}
 use Rattle.passes.proofs.solve.Tie as tie
 
+abbrev its : tie.Start → Given
+its s = let a = s .args in given (mesh (a .x .now) (a .y .now) (a .tri .now) (a .h .now) (a .kind .now)) (a .p) (a .state .now) (a .w) (a .f)
+
+abbrev start : tie.After-assemble → tie.Start
+start m = m .before .before .before .before .before .before .before .before .before .before .before .before .before .before .before .before .before
+
+assemble-requires : tie.Need-assemble-requires
+assemble-requires c κs =
+    let s = c .before .before .before .before .before .before .before .before .before .before .before .before .before .before .before .before in
+    (s .pre .0, (cleared-room (its s) _ (s .pre .1 .0) (c .before .before .before .before .before .before .before .before .clear .ensures), c .before .before .before .before .clear-whole .ensures ∙ ap (λ (n : ℕ). table n (λ _. 0)) (s .pre .1 .1)))
+
 returns : tie.Need-returns
 unfolding row13
-returns c = let l = c .before .before .before .before .before .before in (stops _ (l .levels .ensures .0) (c .if1 .taken), λ z. absurd (c .if1 .taken z))
+returns c = (stops _ (c .before .before .before .before .rises .ensures .0) (c .if1 .taken), λ e. absurd (c .if1 .taken e))
 
-velocities-requires : tie.Need-velocities-requires
-velocities-requires c κs =
-    let l = c .before .before .before .before .before .before .before .before in
-    (l .before .before .before .before .before .before .before .before .before .pre .0, (l .levels .ensures .1 .1, l .levels .ensures .1 .0))
+flows-requires : tie.Need-flows-requires
+flows-requires c κs = let m = c .before .before .before .before .before .before .before .before .before .before .before .before .before .before .before .before .before in (start m .pre .0, (c .before .before .before .before .slopes .ensures, m .assemble .ensures .1))
+
+same-length-3 : tie.Need-same-length-3
+same-length-3 c =
+    let r = c .before .before .before .before .before .before .before .before .before .before .before .before .before in
+    let m = r .before .before .before .before .before .before .before in
+    c .before .before .flows .kept .0 ∙ c .before .before .before .before .before .before .before .slopes .kept .0 ∙ r .rises .kept .0 ∙ m .assemble .kept .0 ∙ m .before .before .before .before .before .before .before .before .before .clear .kept .0
 
 returns-2 : tie.Need-returns-2
 unfolding row13
 returns-2 c =
-    let v = c .before .before in
-    let e = v .before .before .before in
-    let l = e .before .before .before .before .before .before in
-    (goes _ (same-number (l .levels .ensures .0) (e .if1 .left)) (v .velocities .ensures .0), λ _. v .velocities .ensures .1)
+    let f = c .before .before in
+    let r = c .before .before .before .before .before .before .before .before .before .before .before .before .before in
+    (goes _ (same-number (r .rises .ensures .0) (c .before .before .before .before .before .before .before .before .before .if1 .left)) (f .flows .ensures .0), λ _. f .flows .ensures .1)
 
 pub solve-spec : {M : Type 1} → statement M
 solve-spec =
     tie.close
-    (tie.spec (λ c κs. search needs) (λ c. search needs) (λ c. search needs) returns velocities-requires (λ c. search needs) (λ c. search needs)
+    (tie.spec (λ c κs. tt) (λ c κs. tt) assemble-requires
+    (λ c κs. let m = c .before .before .before .before .before .before in (start m .pre .0, m .assemble .ensures)) (λ c. search needs)
+    (λ c. search needs) returns
+    (λ c κs. let r = c .before .before .before .before .before in (start (r .before .before .before .before .before .before .before) .pre .0, r .rises .ensures .1))
+    flows-requires same-length-3
+    (λ c. let m = c .before .before .before .before .before .before .before .before .before .before .before .before .before .before .before .before .before .before .before .before in m .assemble .kept .1 .0 ∙ m .before .before .before .before .before .clear-whole .kept .0)
     returns-2)

@@ -1,141 +1,118 @@
-use Prim.Native.Nat.{ℕ, _-_, _≤_}
+use Prim.Native.Nat.{ℕ, _-_, _*_, _≤_, _<_}
 use mathlib.Core.Path.{_≡_, sym, ap, _∙_}
 use native.Mathlib.Omega.{arith}
 use borrow.Author.Needs.{needs}
+use lib.Dec.{lit<}
 use lib.ListN.{length}
 use Rattle.lists.specs.Table.{table}
-use Rattle.lists.specs.Gather.{Below}
+use Rattle.lists.specs.Gather.{gathered}
 use Rattle.lists.proofs.TableLaws.{length-table}
-use Rattle.geometry.specs.declared.WholeSides.{WholeSides}
-use Rattle.geometry.proofs.GeometryLaws.{near-floats, near-count}
-use Rattle.mesh.proofs.SideLaws.{sides-read}
-use Rattle.mesh.specs.Lent.{corners}
-use Rattle.geometry.specs.Geometry.{nodesOf, floats, nearFloats, nearD, counted, sidesAt}
-use Rattle.mesh.specs.Geometry.{sides, area}
-use Rattle.mesh.specs.Accepted.{Sound}
-use Rattle.equations.specs.Elevation.{shares}
-use Rattle.passes.specs.Equations.{Sea, sea, count, triangles, node, threeOf, sharesAt}
-use Rattle.passes.specs.Passes.{Ready}
-use Rattle.passes.proofs.PassLaws.{R-to, S-to, R-none, S-none, R-more, S-more, S-room, corners-below}
+use Rattle.lists.proofs.RunLaws.{runs-length}
+use Rattle.equations.specs.declared.Forcing.{Forcing}
+use Rattle.geometry.specs.Geometry.{nodesOf}
+use Rattle.mesh.specs.Lent.{mesh, E}
+use Rattle.mesh.proofs.SideLaws.{corners-read}
+use Rattle.passes.specs.Equations.{Given, given, count, cornersOf}
+use Rattle.passes.specs.Private.{Fits}
+use Rattle.passes.proofs.PassLaws.{sumsTo, S-to, in-run, inside, its-area, its-shares, sum-more, area-more, S-room}
 use Rattle.passes.proofs.elevation.assemble.Statement.{statement}
 use Rattle.passes.proofs.elevation.assemble.Tie as tie
 
+-- for any forcing: none is read here
 abbrev Inv-loop : tie.InvT-loop
-Inv-loop r₀ sums₀ p w x y tri h state e t₀ r sums t =
-    let s = sea p w x y tri h state in
-    (t ≤ e) × ((r ≡ table (count s) (R-to s t)) × (sums ≡ table (count s) (S-to s t)))
+Inv-loop work₀ sums₀ x y tri h kind p state w n e t₀ work sums t =
+    (t ≤ e) × ((f : Forcing) → let g = given (mesh x y tri h kind) p state w f in (work ≡ sumsTo g t) × (sums ≡ table (count g) (S-to g t)))
 
 abbrev μ-loop : tie.MeasureT-loop
-μ-loop r₀ sums₀ p w x y tri h state e t₀ r sums t = e - t
+μ-loop work₀ sums₀ x y tri h kind p state w n e t₀ work sums t = e - t
 
-abbrev its : tie.Start Inv-loop μ-loop → Sea
-its a = sea (a .args .p) (a .args .w) (a .args .x .now) (a .args .y .now) (a .args .tri .now) (a .args .h .now) (a .args .state .now)
+abbrev its : tie.Start Inv-loop μ-loop → Forcing → Given
+its s f = let a = s .args in given (mesh (a .x .now) (a .y .now) (a .tri .now) (a .h .now) (a .kind .now)) (a .p) (a .state .now) (a .w) f
 
 abbrev start : tie.At-loop Inv-loop μ-loop → tie.Start Inv-loop μ-loop
-start l = l .before .before .before .before .before .before
+start l = l .before .before .before .before .before .before .before
 
-abbrev sea-of : tie.At-loop Inv-loop μ-loop → Sea
-sea-of l = its (start l)
+fits : (l : tie.At-loop Inv-loop μ-loop) (f : Forcing) → Fits (its (start l) f)
+fits l f = let z = start l .pre .0 in record { shape = z .shape; state = z .state }
 
-ready : (l : tie.At-loop Inv-loop μ-loop) → Ready (sea-of l)
-ready l = start l .pre .0
+long : (l : tie.At-loop Inv-loop μ-loop) → length (l .loop .work) ≡ 3 * length (start l .args .x .now)
+long l = ap length (l .loop .inv .1 (start l .args .f) .0) ∙ runs-length _ _
 
--- ---- triangle t, as each call finds it
-sound : (c : tie.In-loop Inv-loop μ-loop) → let s = sea-of (c .before) in Sound (s .x) (s .y) (s .tri) (c .before .loop .t)
-sound c = ready (c .before) .sound _ (c .loop-test .taken)
+sums-long : (l : tie.At-loop Inv-loop μ-loop) → length (l .loop .sums) ≡ length (start l .args .x .now)
+sums-long l = ap length (l .loop .inv .1 (start l .args .f) .1) ∙ length-table _ _
 
-inside : (c : tie.After-corners-at Inv-loop μ-loop) → Below (nodesOf (c .corners-at .result)) (count (sea-of (c .before .before)))
-inside c = rw (c .corners-at .ensures) (corners-below _ (ready (c .before .before)) _ (c .before .loop-test .taken))
-
-its-sides : (c : tie.After-places-at Inv-loop μ-loop) → let l = c .before .before .before in let s = sea-of l in sidesAt (c .places-at .result) ≡ sides (s .x) (s .y) (corners (s .tri) (l .loop .t))
-its-sides c = let s = sea-of (c .before .before .before) in sides-read (s .x) (s .y) _ _ _ (c .places-at .ensures) (c .before .corners-at .ensures)
-
-its-floats : (c : tie.After-places-at Inv-loop μ-loop) → let l = c .before .before .before in let s = sea-of l in nearFloats (sidesAt (c .places-at .result)) ≡ floats (sides (s .x) (s .y) (corners (s .tri) (l .loop .t)))
-its-floats c = ap nearFloats (its-sides c) ∙ near-floats _ (sound (c .before .before) .small)
-
-its-shares : (c : tie.After-shares-of Inv-loop μ-loop) → let l = c .before .before .before .before .before in threeOf (c .shares-of .result) ≡ sharesAt (sea-of l) (l .loop .t)
-unfolding sharesAt
-its-shares c =
-    let s = sea-of (c .before .before .before .before .before) in
-    ap threeOf (c .shares-of .ensures)
-    ∙ (λ i.
-    let k = c .before .before .before .corners-at .ensures i in
-    threeOf (shares (s .p) (s .wind) (node s (k .first)) (node s (k .second)) (node s (k .third)) (its-floats (c .before .before) i)))
-
-its-area : (c : tie.After-area-of Inv-loop μ-loop) → let l = c .before .before .before .before .before .before .before .before .before .before .before in let s = sea-of l in c .area-of .result ≡ area (s .x) (s .y) (s .tri) (l .loop .t)
-unfolding area
-its-area c =
-    let d = c .before .before .before .before .before .before .before .before in
-    let h = sound (d .before .before) in
-    c .area-of .ensures
-    ∙ ap (λ (s : WholeSides). counted (nearD s)) (c .before .sides-of .ensures ∙ its-sides d)
-    ∙ near-count _ (h .small) (h .turns)
+-- the corners that were read are those of triangle t
+corner : (c : tie.After-corners-at Inv-loop μ-loop) → let l = c .before .before in nodesOf (c .corners-at .result) ≡ cornersOf (its (start l) (start l .args .f)) (l .loop .t)
+corner c = corners-read _ _ (c .before .loop-test .taken) (c .corners-at .ensures)
 
 loop-holds : tie.Need-loop-holds Inv-loop μ-loop
-loop-holds c =
-    let a = c .before .before .before .before .before in
-    (omega arith, (a .pre .1 .0 ∙ R-none (its a), a .pre .1 .1 ∙ S-none (its a)))
+unfolding gathered
+loop-holds c = let s = c .before .before .before .before .before .before in (omega arith, λ f. s .pre .1)
 
 places-at-requires : tie.Need-places-at-requires Inv-loop μ-loop
-places-at-requires c κs = (ready (c .before .before) .y, rw (c .corners-at .ensures) (sound (c .before) .nodes))
+places-at-requires c κs =
+    let l = c .before .before in
+    let z = fits l (start l .args .f) in
+    (z .shape .sized .y, inside _ z _ (c .before .loop-test .taken) (corner c))
 
 shares-of-requires : tie.Need-shares-of-requires Inv-loop μ-loop
 shares-of-requires c κs =
-    let l = c .before .before .before in
-    (inside (c .before .before), ready (l .before) .state)
+    let k = c .before .before in
+    let l = k .before .before in
+    let z = fits l (start l .args .f) in
+    (inside _ z _ (k .before .loop-test .taken) (corner k), z .shape .sized .h, z .state)
 
 spread-requires : tie.Need-spread-requires Inv-loop μ-loop
 spread-requires c κs =
-    let l = c .before .before .before .before .before in
-    rw (ap length (l .loop .inv .1 .0) ∙ length-table _ _) (inside (c .before .before .before))
+    let k = c .before .before .before in
+    let l = k .before .before in
+    rw (long l) (in-run 0 3 (lit< tt) (inside _ (fits l (start l .args .f)) _ (k .before .loop-test .taken) (corner k)))
+
+abbrev back : tie.After-area-of Inv-loop μ-loop → tie.After-places-at Inv-loop μ-loop
+back c = c .before .before .before .before .before .before .before .before
 
 spread-area-requires : tie.Need-spread-area-requires Inv-loop μ-loop
 spread-area-requires c κs =
-    let d = c .before .before .before .before .before .before .before .before in
-    let l = d .before .before .before in (
-      rw (ap length (l .loop .inv .1 .1) ∙ length-table _ _) (inside (d .before)),
-      λ i. S-room (sea-of l) (ready l) _ _ i _ (d .before .before .loop-test .taken) (its-area c) (l .loop .inv .1 .1),
-    )
-
-add-t : tie.Need-add-t Inv-loop μ-loop
-add-t c =
-    let i = c .before .before .before .before .before .before .before .before .before .before .before .before .before in
-    record { fits = omega (arith, i .loop-test .taken, ready (i .before) .few) }
+    let q = back c in
+    let k = q .before in
+    let l = k .before .before in
+    let f = start l .args .f in
+    let h = k .before .loop-test .taken in
+    let d = its-area _ (fits l f) _ h (corner k) (q .places-at .ensures) (c .before .sides-of .ensures) (c .area-of .ensures) in
+    (rw (sums-long l) (inside _ (fits l f) _ h (corner k)), λ i. S-room _ (fits l f) (l .loop .t) i h d (l .loop .inv .1 f .1))
 
 loop-again : tie.Need-loop-again Inv-loop μ-loop
 loop-again c =
     let d = c .before .before .before in
-    let v = d .before .before .before .before .before .before in
-    let l = v .before .before .before .before .before in
-    let h = v .before .before .before .before .loop-test .taken in (
-      omega arith,
-      (
-        c .before .before .before .before .before .before .before .before .spread .ensures
-            ∙ R-more (sea-of l) (ready l) (l .loop .t) h _ _ _ (v .before .before .before .corners-at .ensures) (its-shares v) (l .loop .inv .1 .0),
-        c .before .before .spread-area .ensures
-            ∙ S-more (sea-of l) (ready l) (l .loop .t) h _ _ _ (v .before .before .before .corners-at .ensures) (its-area d) (l .loop .inv .1 .1),
-      ),
+    let q = back d in
+    let k = q .before in
+    let l = k .before .before in
+    let h = k .before .loop-test .taken in (
+      omega (arith, h),
+      λ f.
+          let z = fits l f in
+          let inv = l .loop .inv .1 f in (
+            d .before .before .before .before .before .spread .ensures
+                ∙ sum-more _ z _ h (corner k) (its-shares _ z _ h (corner k) (q .places-at .ensures) (d .before .before .before .before .before .before .shares-of .ensures)) (inv .0),
+            c .before .before .spread-area .ensures
+                ∙ area-more _ z _ h (corner k) (its-area _ z _ h (corner k) (q .places-at .ensures) (d .before .sides-of .ensures) (d .area-of .ensures)) (inv .1),
+          ),
     )
-
-same-length : tie.Need-same-length Inv-loop μ-loop
-same-length c =
-    let l = c .before in
-    ap length (l .loop .inv .1 .0) ∙ length-table _ _ ∙ sym (ap length (start l .pre .1 .0) ∙ length-table _ _)
-
-same-length-2 : tie.Need-same-length-2 Inv-loop μ-loop
-same-length-2 c =
-    let l = c .before in
-    ap length (l .loop .inv .1 .1) ∙ length-table _ _ ∙ sym (ap length (start l .pre .1 .1) ∙ length-table _ _)
 
 returns : tie.Need-returns Inv-loop μ-loop
 returns c =
     let l = c .before in
-    let s = sea-of l in
-    let all : l .loop .t ≡ triangles s = omega arith in
-    (l .loop .inv .1 .0 ∙ ap (λ (t : ℕ). table (count s) (R-to s t)) all, l .loop .inv .1 .1 ∙ ap (λ (t : ℕ). table (count s) (S-to s t)) all)
+    let s = start l in
+    let g = its s (s .args .f) in
+    let end : l .loop .t ≡ E (g .mesh) = omega arith in
+    let v = l .loop .inv .1 (s .args .f) in
+    (v .0 ∙ ap (sumsTo g) end, v .1 ∙ ap (λ (t : ℕ). table (count g) (S-to g t)) end)
 
 pub assemble-spec : {M : Type 1} → statement M
 assemble-spec =
     tie.close
-    (tie.spec Inv-loop μ-loop loop-holds (λ c κs. search needs) places-at-requires shares-of-requires spread-requires (λ c κs. search needs)
-    (λ c κs. search needs) spread-area-requires add-t (λ c. search needs) loop-again same-length same-length-2 returns)
+    (tie.spec Inv-loop μ-loop loop-holds (λ c κs. tt) places-at-requires (λ c. search needs) shares-of-requires spread-requires (λ c κs. tt)
+    (λ c κs. tt) spread-area-requires
+    (λ c. let k = back (c .before .before .before) .before in record { fits = omega (arith, k .before .loop-test .taken, fits (k .before .before) (start (k .before .before) .args .f) .shape .sized .most-triangles) })
+    (λ c. omega arith) loop-again (λ c. let l = c .before in long l ∙ sym (ap length (start l .pre .1 .0) ∙ runs-length _ _))
+    (λ c. let l = c .before in sums-long l ∙ sym (ap length (start l .pre .1 .1) ∙ length-table _ _)) returns)

@@ -14,7 +14,7 @@ unfolding riseOf z*
 returns-2 c =
     let z = c .before in
     rw (
-      z .risen .ensures,
+      z .rise .ensures,
       z .before .before .lumped .ensures,
       z .before .before .before .sum-of .ensures,
       ne-eqb _ _ (c .if1 .left),

@@ -12,7 +12,7 @@ use Rattle.passes.proofs.velocity.flow_at.Tie as tie
 
 -- U' as the first choice leaves it
 chosen : (c : tie.Joined1) → let f = c .before .before in let a = f .before .before .before .before .before .before .before .before .args in
-    c .if1 .t43 ≡ cond (eqb (getD (a .kind .now) (a .i) 0) 2) plus0 (f .flow .result .u)
+    c .if1 .u ≡ cond (eqb (getD (a .kind .now) (a .i) 0) 2) plus0 (f .flow .result .u)
 unfolding ofBits
 chosen c = ⊎-elim (λ w. rw (w .0 .taken) (w .1)) (λ w. rw (w .0 .left) (w .1)) (c .if1 .came)
 

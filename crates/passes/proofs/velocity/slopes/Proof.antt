@@ -1,87 +1,99 @@
-use Prim.Native.Nat.{_-_, _*_, _/_, _≤_}
+use Prim.Native.Nat.{_-_, _*_, _≤_, _<_}
 use mathlib.Core.Path.{_≡_, sym, ap, _∙_}
 use native.Mathlib.Omega.{arith}
-use borrow.Author.Needs.{needs}
+use lib.Dec.{lit<}
 use lib.ListN.{length}
-use Rattle.lists.specs.Runs.{run}
-use Rattle.lists.specs.Gather.{Below}
-use Rattle.mesh.specs.Lent.{corners}
-use Rattle.geometry.specs.Geometry.{nodesOf, floats, nearFloats}
-use Rattle.mesh.specs.Geometry.{sides}
-use Rattle.passes.specs.Passes.{Sloping, sloping, SlopingFits, slopeRoom}
-use Rattle.geometry.proofs.GeometryLaws.{near-floats}
-use Rattle.mesh.proofs.SideLaws.{sides-read}
-use Rattle.passes.proofs.PassLaws.{slope-long, slope-more}
+use lib.Ieee.{Float, nan}
+use Rattle.lists.specs.Gather.{Three, Below, past, gathered, spread}
+use Rattle.lists.proofs.RunLaws.{runs-length}
+use Rattle.equations.specs.declared.Parameters.{Parameters}
+use Rattle.equations.specs.declared.Wind.{Wind}
+use Rattle.equations.specs.declared.Forcing.{Forcing}
+use Rattle.geometry.specs.Geometry.{nodesOf}
+use Rattle.mesh.specs.Lent.{mesh, E}
+use Rattle.mesh.proofs.SideLaws.{corners-read}
+use Rattle.passes.specs.Equations.{Given, given, cornersOf, floating}
+use Rattle.passes.specs.Private.{Fits, riseRoom}
+use Rattle.passes.proofs.PassLaws.{slopesTo, in-run, inside, its-floats, slope-more}
 use Rattle.passes.proofs.velocity.slopes.Statement.{statement}
 use Rattle.passes.proofs.velocity.slopes.Tie as tie
 
+-- for any parameters, wind and forcing that z' is of: none is read here
 abbrev Inv-loop : tie.InvT-loop
-Inv-loop work₀ x y tri state n e t₀ work t = (t ≤ e) × (work ≡ slopeRoom (sloping x y tri state (run (length x) 0 work₀)) t)
+Inv-loop work₀ x y tri h kind state n e t₀ work t =
+    (t ≤ e) × ((p : Parameters) (w : Wind) (f : Forcing) → let g = given (mesh x y tri h kind) p state w f in work₀ ≡ riseRoom g → work ≡ slopesTo g t)
 
 abbrev μ-loop : tie.MeasureT-loop
-μ-loop work₀ x y tri state n e t₀ work t = e - t
+μ-loop work₀ x y tri h kind state n e t₀ work t = e - t
 
 abbrev start : tie.At-loop Inv-loop μ-loop → tie.Start Inv-loop μ-loop
-start l = l .before .before .before .before
+start l = l .before .before .before .before .before .before
 
-abbrev from : tie.At-loop Inv-loop μ-loop → Sloping
-from l = let a = start l .args in sloping (a .x .now) (a .y .now) (a .tri .now) (a .state .now) (run (length (a .x .now)) 0 (a .work .now))
+abbrev its : tie.Start Inv-loop μ-loop → Parameters → Wind → Forcing → Given
+its s p w f = let a = s .args in given (mesh (a .x .now) (a .y .now) (a .tri .now) (a .h .now) (a .kind .now)) p (a .state .now) w f
 
-fits : (l : tie.At-loop Inv-loop μ-loop) → SlopingFits (from l)
+abbrev here : tie.At-loop Inv-loop μ-loop → Given
+here l = let a = start l .args in its (start l) (a .p) (a .w) (a .f)
+
+fits : (l : tie.At-loop Inv-loop μ-loop) → Fits (here l)
 fits l = start l .pre .0
 
+inv : (l : tie.At-loop Inv-loop μ-loop) → l .loop .work ≡ slopesTo (here l) (l .loop .t)
+inv l = let a = start l .args in l .loop .inv .1 (a .p) (a .w) (a .f) (start l .pre .1)
+
 long : (l : tie.At-loop Inv-loop μ-loop) → length (l .loop .work) ≡ 3 * length (start l .args .x .now)
-long l = ap length (l .loop .inv .1) ∙ slope-long (from l) (fits l) (l .loop .t)
+long l = ap length (inv l) ∙ runs-length _ _
 
-inside : (c : tie.After-corners-at Inv-loop μ-loop) → Below (nodesOf (c .corners-at .result)) (length (from (c .before .before) .x))
-inside c = rw (c .corners-at .ensures) (fits (c .before .before) .sound _ (c .before .loop-test .taken) .nodes)
+-- the corners that were read are those of triangle t
+corner : (c : tie.After-corners-at Inv-loop μ-loop) → let l = c .before .before in nodesOf (c .corners-at .result) ≡ cornersOf (here l) (l .loop .t)
+corner c = corners-read _ _ (c .before .loop-test .taken) (c .corners-at .ensures)
 
-its-floats : (c : tie.After-floats-of Inv-loop μ-loop) → let l = c .before .before .before .before in let w = from l in c .floats-of .result ≡ floats (sides (w .x) (w .y) (corners (w .tri) (l .loop .t)))
-its-floats c =
-    let d = c .before in
-    let l = d .before .before .before in
-    let w = from l in
-    c .floats-of .ensures
-    ∙ ap nearFloats (sides-read (w .x) (w .y) _ _ _ (d .places-at .ensures) (d .before .corners-at .ensures))
-    ∙ near-floats _ (fits l .sound _ (d .before .before .loop-test .taken) .small)
+below : (c : tie.After-corners-at Inv-loop μ-loop) → Below (nodesOf (c .corners-at .result)) (length (start (c .before .before) .args .x .now))
+below c = inside _ (fits (c .before .before)) _ (c .before .loop-test .taken) (corner c)
 
 loop-holds : tie.Need-loop-holds Inv-loop μ-loop
-loop-holds c = (omega arith, c .before .before .before .pre .1)
-
-places-at-requires : tie.Need-places-at-requires Inv-loop μ-loop
-places-at-requires c κs = let l = c .before .before in (fits l .y, inside c)
-
-slope-of-requires : tie.Need-slope-of-requires Inv-loop μ-loop
-slope-of-requires c κs = let l = c .before .before .before .before .before in (inside (c .before .before .before), fits l .state, long l)
-
-spread-slope-requires : tie.Need-spread-slope-requires Inv-loop μ-loop
-spread-slope-requires c κs = let l = c .before .before .before .before .before .before .before in (inside (c .before .before .before .before .before), long l)
-
-add-t : tie.Need-add-t Inv-loop μ-loop
-add-t c = let i = c .before .before .before .before .before .before .before .before .before in record { fits = omega (arith, i .loop-test .taken, start (i .before) .good) }
+unfolding gathered
+loop-holds c = (omega arith, λ p w f e. e)
 
 loop-again : tie.Need-loop-again Inv-loop μ-loop
 loop-again c =
-    let v = c .before .before .before .before in
-    let s = v .before .before in
-    let k = s .before .before in
-    let l = k .before .before in (
-      omega arith,
-      c .before .before .spread-slope .ensures
-          ∙ slope-more (from l) (fits l) (l .loop .t) (k .before .loop-test .taken) _ _ _ _ (l .loop .inv .1) (k .corners-at .ensures) (its-floats s) (v .slope-of .ensures),
+    let second = c .before .before in
+    let first = second .before .before .before .before .before in
+    let v = first .before .before .before in
+    let q = v .before .before .before in
+    let k = q .before in
+    let l = k .before .before in
+    let h = k .before .loop-test .taken in
+    let n = length (start l .args .x .now) in
+    let at = nodesOf (k .corners-at .result) in (
+      omega (arith, h),
+      λ p w f e.
+          let g = its (start l) p w f in
+          let y = fits l in
+          let z : Fits g = record { shape = y .shape; state = y .state } in
+          second .spread2 .ensures
+          ∙ (λ i. spread floating nan (past (2 * n) at) (second .before .alike2 .ensures i) ((first .spread .ensures ∙ ap (λ (a : Three Float). spread floating nan (past (1 * n) at) a (l .loop .work)) (first .before .alike .ensures)) i))
+          ∙ slope-more g z _ h (corner k) (l .loop .inv .1 p w f e) (v .before .before .floats-of .ensures ∙ its-floats g z _ h (corner k) (q .places-at .ensures)) (v .slope-of .ensures),
     )
-
-same-length : tie.Need-same-length Inv-loop μ-loop
-same-length c = let l = c .before in ap length (l .loop .inv .1) ∙ slope-long (from l) (fits l) (l .loop .t) ∙ sym (ap length (start l .pre .1) ∙ slope-long (from l) (fits l) 0)
 
 returns : tie.Need-returns Inv-loop μ-loop
 returns c =
     let l = c .before in
-    let all : l .loop .t ≡ length (from l .tri) / 3 = omega arith in
-    l .loop .inv .1 ∙ ap (slopeRoom (from l)) all
+    let end : l .loop .t ≡ E (here l .mesh) = omega arith in
+    inv l ∙ ap (slopesTo (here l)) end
 
 pub slopes-spec : {M : Type 1} → statement M
 slopes-spec =
     tie.close
-    (tie.spec Inv-loop μ-loop loop-holds (λ c κs. search needs) places-at-requires (λ c κs. search needs) slope-of-requires spread-slope-requires
-    add-t (λ c. search needs) loop-again same-length returns)
+    (tie.spec Inv-loop μ-loop loop-holds (λ c κs. tt) (λ c κs. (fits (c .before .before) .shape .sized .y, below c)) (λ c κs. tt)
+    (λ c κs. let k = c .before .before .before in let l = k .before .before in (below k, fits l .state, long l))
+    (λ c. record { fits = omega (arith, fits (c .before .before .before .before .before .before .before) .shape .sized .most-nodes) }) (λ c κs. tt)
+    (λ c κs. let k = c .before .before .before .before .before .before in rw (long (k .before .before)) (in-run 1 3 (lit< tt) (below k)))
+    (λ c. record { fits = omega (arith, fits (c .before .before .before .before .before .before .before .before .before .before .before .before) .shape .sized .most-nodes) })
+    (λ c κs. tt)
+    (λ c κs.
+    let d = c .before .before .before .before in
+    let k = d .before .before .before .before .before .before .before in
+    rw (d .spread .kept .0 ∙ long (k .before .before)) (in-run 2 3 (lit< tt) (below k)))
+    (λ c. let t = c .before .before .before .before .before .before .before .before .before .before .before .before .before .before .before in record { fits = omega (arith, t .loop-test .taken, fits (t .before) .shape .sized .most-triangles) })
+    (λ c. omega arith) loop-again (λ c. let l = c .before in long l ∙ sym (ap length (start l .pre .1) ∙ runs-length _ _)) returns)
