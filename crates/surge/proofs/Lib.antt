@@ -1,4 +1,5 @@
 pub mod OpenLaws
 pub mod StepLaws
 pub mod NumberLaws
-pub mod KeptLaws
+pub mod NextLaws
+pub mod ColdLaws

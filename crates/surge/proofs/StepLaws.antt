@@ -1,79 +1,87 @@
--- A step is its passes, with rows 11 and 12 asked between: the clock goes on where they accept.
-use mathlib.Core.Path.{_≡_, refl, sym, ap, _∙_}
+-- The outcomes of a step: told by the answer, and made of what its passes leave and the clock.
+use mathlib.Core.Path.{_≡_, refl}
 use mathlib.Core.Bool.{Bool, true, false, not}
 use borrow.Author.Tests.{eqb-true, eqb-false, not-true}
 use lib.Dec.{eqb}
 use Rattle.lists.specs.declared.rows.Answer.{Answer}
-use Rattle.lists.specs.Scan.{_then_}
 use Rattle.lists.proofs.ScanLaws.{row-passed, then-first, then-rest}
-use Rattle.limits.specs.Limits.{row11, row12Held, row12New}
-use Rattle.mesh.specs.Lent.{N}
-use Rattle.passes.specs.State.{newWind}
-use Rattle.passes.specs.Equations.{nextState}
-use Rattle.passes.specs.Settle.{Rooms, roomy, Settled, settlesTo, settleOf}
+use Rattle.equations.specs.declared.Parameters.{Parameters}
+use Rattle.equations.specs.declared.Forcing.{Forcing}
+use Rattle.limits.specs.Limits.{row11}
+use Rattle.mesh.specs.Lent.{Mesh}
+use Rattle.passes.specs.Row13.{row13}
+use Rattle.passes.specs.Settle.{Rooms, Settled, settlesTo, settleOf}
 use Rattle.surge.specs.declared.Clock.{Clock}
-use Rattle.surge.specs.State.{windOf, advanced}
-use Rattle.surge.specs.Step.{Given, seaOf, advance, before13, StepOut, stepsTo, stepOf}
-
--- rows 11 and 12, as a step hands them to its passes
-abbrev pub alsoOf : Given → Answer
-alsoOf g = row11 (g .clock .step) then row12Held (windOf (g .clock)) then row12New (g .forcing .elevation) (newWind (g .forcing))
-
-abbrev pub settledOf : Given → Rooms → Settled
-settledOf g r = settleOf (g .mesh) (g .p) (g .state) (windOf (g .clock)) (g .forcing) (alsoOf g) r
+use Rattle.surge.specs.Lent.{Run, advanced}
+use Rattle.surge.specs.Step.{StepOut, clockRows, givenOf, advance, stepRows, refusedBefore, refusedBy13, wentOn, stepsTo, stepOf}
 
 -- what the passes left, with a clock
 abbrev pub withClock : Clock → Settled → StepOut
 withClock k o = record { reply = record { answer = o .answer; clock = k }; rooms = o .rooms }
 
-module _ (g : Given) (r : Rooms) where
-  abbrev to : Answer → Answer → Settled
-  to first last = settlesTo (N (g .mesh)) (nextState (seaOf g) (g .mesh .kind) (g .forcing)) r first last
+module _ (m : Mesh) (p : Parameters) (s : Run) (f : Forcing) (r : Rooms) where
+  -- the answer of what is asked before anything is worked out, and row 13's
+  abbrev pub early : Answer
+  early = stepRows m p s f r
 
-  -- refused
-  stays : (first last : Answer) → (to first last .answer .number ≡ 0 → ⊥) → withClock (g .clock) (to first last) ≡ stepsTo g r first last
-  unfolding settlesTo stepsTo
-  stays first last h = go (eqb (first .number) 0) (eqb (last .number) 0) refl refl
+  abbrev pub late : Answer
+  late = row13 (givenOf m p s f)
+
+  -- what holds of each of the three outcomes, where it comes, holds of a step's
+  pub step-cases : (P : StepOut → Type 0) → (early .number ≡ 0 → late .number ≡ 0 → P (wentOn m p s f r late))
+      → (early .number ≡ 0 → (late .number ≡ 0 → ⊥) → P (refusedBy13 m p s f r late))
+      → ((early .number ≡ 0 → ⊥) → P (refusedBefore m p s f r early)) → P (stepOf m p s f r)
+  unfolding stepOf stepsTo
+  step-cases P on by13 before = go (eqb (early .number) 0) refl (eqb (late .number) 0) refl
     where
-      go : (a b : Bool) → eqb (first .number) 0 ≡ a → eqb (last .number) 0 ≡ b → withClock (g .clock) (to first last) ≡ stepsTo g r first last
-      go false b p q = rw p
-      go true false p q = rw (p, q)
-      go true true p q = absurd (h (rw p (eqb-true _ _ q)))
+      go : (a : Bool) → eqb (early .number) 0 ≡ a → (b : Bool) → eqb (late .number) 0 ≡ b → P (stepOf m p s f r)
+      go true e true q = rw (e, q) (on (eqb-true _ _ e) (eqb-true _ _ q))
+      go true e false q = rw (e, q) (by13 (eqb-true _ _ e) (eqb-false _ _ q))
+      go false e b q = rw e (before (eqb-false _ _ e))
 
-  -- gone on
-  goes-on : (first last : Answer) → to first last .answer .number ≡ 0
-      → (first .number ≡ 0) × (withClock (advanced (g .clock) (g .forcing)) (to first last) ≡ stepsTo g r first last)
-  unfolding settlesTo stepsTo advance
-  goes-on first last h = go (eqb (first .number) 0) (eqb (last .number) 0) refl refl
+  -- ---- told by the answer that it gives
+  -- number 0: both accepted, and the equations' state and clock came back
+  pub record WentOn : Type 0 where
+    pub first : early .number ≡ 0
+    pub last : late .number ≡ 0
+    pub out : stepOf m p s f r ≡ wentOn m p s f r late
+
+  pub went-on : eqb (stepOf m p s f r .reply .answer .number) 0 ≡ true → WentOn
+  went-on =
+      step-cases (λ (o : StepOut). stepOf m p s f r ≡ o → eqb (o .reply .answer .number) 0 ≡ true → WentOn)
+      (λ h k q _. record { first = h; last = k; out = q })
+      (λ _ k _ e. absurd (k (eqb-true _ _ e)))
+      (λ h _ e. absurd (h (eqb-true _ _ e)))
+      refl
+
+  -- any other number: the clock came back as it was
+  pub stayed : eqb (stepOf m p s f r .reply .answer .number) 0 ≡ false → stepOf m p s f r .reply .clock ≡ s .clock
+  stayed =
+      step-cases (λ (o : StepOut). eqb (o .reply .answer .number) 0 ≡ false → o .reply .clock ≡ s .clock)
+      (λ _ k e. absurd (eqb-false _ _ e k))
+      (λ _ _ _. refl)
+      (λ _ _. refl)
+
+  -- ---- made of what the passes leave
+  abbrev its : Settled
+  its = settleOf (givenOf m p s f) (clockRows (s .clock) f) r
+
+  pub record Made : Type 0 where
+    pub refused : (its .answer .number ≡ 0 → ⊥) → withClock (s .clock) its ≡ stepOf m p s f r
+    pub accepted : its .answer .number ≡ 0 → (early .number ≡ 0) × (withClock (advanced (s .clock) f) its ≡ stepOf m p s f r)
+
+  pub made : Made
+  unfolding settleOf settlesTo stepOf stepsTo stepRows advance
+  made = go (eqb (early .number) 0) (eqb (late .number) 0) refl refl
     where
-      go : (a b : Bool) → eqb (first .number) 0 ≡ a → eqb (last .number) 0 ≡ b
-          → (first .number ≡ 0) × (withClock (advanced (g .clock) (g .forcing)) (to first last) ≡ stepsTo g r first last)
-      go false b p q = absurd (eqb-false _ _ p (rw p at h))
-      go true false p q = absurd (eqb-false _ _ q (rw p at h))
-      go true true p q = (eqb-true _ _ p, rw (p, q))
+      go : (a b : Bool) → eqb (early .number) 0 ≡ a → eqb (late .number) 0 ≡ b → Made
+      go false b e q = record { refused = λ _. rw e; accepted = λ h. absurd (eqb-false _ _ e (rw e at h)) }
+      go true false e q = record { refused = λ _. rw (e, q); accepted = λ h. absurd (eqb-false _ _ q (rw e at h)) }
+      go true true e q = record { refused = λ h. absurd (h (rw e (eqb-true _ _ q))); accepted = λ _. (eqb-true _ _ e, rw (e, q)) }
 
-  module _ (o : Settled) (e : o ≡ settledOf g r) where
-    number : settledOf g r .answer .number ≡ o .answer .number
-    number = ap (λ (s : Settled). s .answer .number) (sym e)
-
-    pub stayed : (o .answer .number ≡ 0 → ⊥) → withClock (g .clock) o ≡ stepOf g r
-    unfolding settleOf stepOf before13
-    stayed h = ap (withClock (g .clock)) e ∙ stays _ _ (λ z. h (sym number ∙ z))
-
-    pub passed : o .answer .number ≡ 0 → before13 (roomy r (N (g .mesh))) g .number ≡ 0
-    unfolding settleOf before13
-    passed h = goes-on _ _ (number ∙ h) .0
-
-    pub went-on : o .answer .number ≡ 0 → (k : Clock) → k ≡ advanced (g .clock) (g .forcing) → withClock k o ≡ stepOf g r
-    unfolding settleOf stepOf before13
-    went-on h k ek = (λ i. withClock (ek i) (e i)) ∙ goes-on _ _ (number ∙ h) .1
-
-  -- ---- what is known past rows 1 to 12
-  module _ (ok : before13 (roomy r (N (g .mesh))) g .number ≡ 0) where
-    -- row 11
-    counts : not (eqb (g .clock .step) 4294967295) ≡ true
-    unfolding before13 row11
-    counts = row-passed _ 10 0 (then-first _ _ (then-rest _ _ ok))
-
-    pub not-last : g .clock .step ≡ 4294967295 → ⊥
-    not-last = eqb-false (g .clock .step) 4294967295 (not-true (eqb (g .clock .step) 4294967295) counts)
+  -- ---- row 11: where the rows accept, the clock can count on
+  pub not-last : early .number ≡ 0 → s .clock .step ≡ 4294967295 → ⊥
+  unfolding stepRows clockRows row11
+  not-last ok =
+      let counts : not (eqb (s .clock .step) 4294967295) ≡ true = row-passed _ 10 0 (then-first _ _ (then-rest _ _ ok)) in
+      eqb-false (s .clock .step) 4294967295 (not-true (eqb (s .clock .step) 4294967295) counts)

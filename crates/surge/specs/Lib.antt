@@ -1,4 +1,3 @@
 pub mod Lent
 pub mod Open
-pub mod State
 pub mod Step

@@ -1,4 +1,5 @@
 // The storm-surge run of document 01: the calls that are made on it, and what goes into them and comes back.
+use bounds::STATE_RUNS;
 use equations::Forcing;
 use equations::Parameters;
 use equations::Wind;
@@ -6,16 +7,12 @@ use lists::rows;
 use lists::rows::Answer;
 use lists::slices;
 ghost use mathlib.Core.Path.{_≡_};
-ghost use Rattle.mesh.specs.Lent.{mesh};
-ghost use Rattle.surge.specs.Lent.{coldClock, after};
 ghost use Prim.Native.Nat.{_<_};
-ghost use Rattle.lists.specs.Scan.{_then_};
-ghost use Rattle.limits.specs.Limits.{row11, row12Held, row12New};
-ghost use Rattle.passes.specs.State.{newWind};
-ghost use Rattle.surge.specs.State.{windOf, advanced};
-ghost use Rattle.surge.specs.Step.{given, stepOut, stepOf};
+ghost use Rattle.mesh.specs.Lent.{mesh};
 ghost use Rattle.passes.specs.Settle.{lentRooms};
+ghost use Rattle.surge.specs.Lent.{run, coldClock, windOf, advanced, after};
 ghost use Rattle.surge.specs.Open.{openOf};
+ghost use Rattle.surge.specs.Step.{clockRows, stepOut, stepOf};
 
 // The step number and the present wind.
 pub struct Clock {
@@ -78,8 +75,8 @@ pub fn open(
 ) -> Reply
     ensures { λ r. ⌜ after r (now (state .exit)) ≡ openOf (mesh (now (x .entry)) (now (y .entry)) (now (tri .entry)) (now (h .entry)) (now (kind .entry))) p (now (state .entry)) ⌝ }
 {
-    let rooms = slices::is_runs(state.len(), 4, x.len());
-    let answer = mesh::check(rooms, true, x, y, tri, h, kind, p);
+    let long = rows::tested(slices::is_runs(state.len(), STATE_RUNS, x.len()), 1, 0);
+    let answer = mesh::open_rows(long, x, y, tri, h, kind, p);
     if answer.number == 0 {
         slices::clear(state);
     }
@@ -90,8 +87,8 @@ pub fn open(
 }
 
 // Rows 11 and 12: what a step asks of the clock and the forcing.
-fn others(clock: Clock, f: Forcing) -> Answer
-    ensures { λ r. ⌜ r ≡ (row11 (clock .step) then row12Held (windOf clock) then row12New (f .elevation) (newWind f)) ⌝ }
+fn clock_rows(clock: Clock, f: Forcing) -> Answer
+    ensures { λ r. ⌜ r ≡ clockRows clock f ⌝ }
 {
     let new = Wind { x: f.wx, y: f.wy };
     let winds = rows::first(
@@ -101,7 +98,8 @@ fn others(clock: Clock, f: Forcing) -> Answer
     rows::first(limits::may_count(clock.step), winds)
 }
 
-// A step: rows 1 to 13, then the next state in `next`. A refusal leaves `next` and the clock as found, and the work room too unless it is 13.
+// A step: what is asked of mesh, state, clock and forcing, then row 13 and the next state in `next`. A refusal leaves `next` and the clock as found,
+// and the work room too unless it is 13.
 pub fn step(
     next: &mut [f64],
     work: &mut [f64],
@@ -116,24 +114,11 @@ pub fn step(
     clock: Clock,
     f: Forcing,
 ) -> Reply
-    ensures { λ r. ⌜ stepOut r (now (next .exit)) (now (work .exit)) (now (sums .exit)) ≡ stepOf (given (mesh (now (x .entry)) (now (y .entry)) (now (tri .entry)) (now (h .entry)) (now (kind .entry))) p (now (state .entry)) clock f) (lentRooms (now (next .entry)) (now (work .entry)) (now (sums .entry))) ⌝ }
+    ensures { λ r. ⌜ stepOut r (now (next .exit)) (now (work .exit)) (now (sums .exit)) ≡ stepOf (mesh (now (x .entry)) (now (y .entry)) (now (tri .entry)) (now (h .entry)) (now (kind .entry))) p (run (now (state .entry)) clock) f (lentRooms (now (next .entry)) (now (work .entry)) (now (sums .entry))) ⌝ }
 {
-    let also = others(clock, f);
-    let answer = passes::settle(
-        next,
-        work,
-        sums,
-        x,
-        y,
-        tri,
-        h,
-        kind,
-        p,
-        state,
-        clock.wind(),
-        f,
-        also,
-    );
+    let also = clock_rows(clock, f);
+    let w = clock.wind();
+    let answer = passes::settle(next, work, sums, x, y, tri, h, kind, p, state, w, f, also);
     if answer.number != 0 {
         return Reply { answer, clock };
     }

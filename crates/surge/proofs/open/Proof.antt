@@ -1,26 +1,28 @@
 use mathlib.Core.Path.{_≡_, ap, _∙_}
 use mathlib.Core.Logic.{⊎-elim}
-use mathlib.Core.Bool.{Bool, true}
+use mathlib.Core.Bool.{Bool}
 use lib.ListN.{length}
+use Rattle.lists.specs.declared.rows.Answer.{Answer}
+use Rattle.lists.specs.Scan.{row}
 use Rattle.lists.proofs.TableLaws.{length-table}
 use Rattle.mesh.specs.Lent.{mesh}
-use Rattle.mesh.specs.Rows.{rows1to9}
+use Rattle.mesh.specs.Rows.{openRows}
 use Rattle.surge.specs.Open.{openAnswer}
 use Rattle.surge.proofs.OpenLaws.{open-accepted, open-refused}
-use borrow.Author.Needs.{needs}
 use Rattle.surge.proofs.open.Statement.{statement}
 use Rattle.surge.proofs.open.Tie as tie
 
-abbrev start : tie.After-check → tie.Start
-start c = c .before .before .before .before .before .before
+abbrev start : tie.After-open-rows → tie.Start
+start c = c .before .before .before .before .before .before .before
 
-answered : (c : tie.After-check) → let a = start c .args in
-    c .check .result ≡ openAnswer (mesh (a .x .now) (a .y .now) (a .tri .now) (a .h .now) (a .kind .now)) (a .p) (a .state .now)
+answered : (c : tie.After-open-rows) → let a = start c .args in
+    c .open-rows .result ≡ openAnswer (mesh (a .x .now) (a .y .now) (a .tri .now) (a .h .now) (a .kind .now)) (a .p) (a .state .now)
 unfolding openAnswer
 answered c =
     let a = start c .args in
     let m = mesh (a .x .now) (a .y .now) (a .tri .now) (a .h .now) (a .kind .now) in
-    c .check .ensures ∙ ap (λ (rooms : Bool). rows1to9 rooms true m (a .p)) (c .before .is-runs .ensures)
+    let long = c .before .tested .ensures ∙ ap (λ (b : Bool). row b 1 0) (c .before .before .is-runs .ensures) in
+    c .open-rows .ensures ∙ ap (λ (b : Answer). openRows b m (a .p)) long
 
 same-length : tie.Need-same-length
 same-length c =
@@ -37,4 +39,4 @@ returns c =
     (c .before .if1 .came)
 
 pub open-spec : {M : Type 1} → statement M
-open-spec = tie.close (tie.spec (λ c κs. search needs) (λ c κs. search needs) (λ c κs. search needs) (λ c κs. search needs) same-length returns)
+open-spec = tie.close (tie.spec (λ c κs. tt) (λ c κs. tt) (λ c κs. tt) (λ c κs. tt) (λ c κs. tt) same-length returns)

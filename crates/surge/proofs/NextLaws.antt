@@ -1,0 +1,121 @@
+-- A run that can be saved stays one: where a step accepts, what it leaves passes rows 10 and 12, as the next step and a save ask them.
+use Prim.Native.Nat.{ℕ, _<_}
+use mathlib.Core.Path.{_≡_, refl, ap}
+use mathlib.Core.Bool.{Bool, true, false, cond}
+use mathlib.Core.List.{List, [], _∷_}
+use native.Mathlib.Omega.{arith}
+use lib.Dec.{lit<}
+use lib.ListN.{getD}
+use lib.Ieee.{Float, nan, le}
+use Rattle.lists.specs.declared.rows.Answer.{Answer}
+use Rattle.lists.specs.Runs.{runsOf}
+use Rattle.lists.specs.Scan.{accepted}
+use Rattle.lists.proofs.ScanLaws.{row-holds, row-passed, then-first, then-rest, scan-clean, both-left, both-right}
+use Rattle.lists.proofs.RunLaws.{runs-length, run-read}
+use Rattle.equations.specs.declared.Parameters.{Parameters}
+use Rattle.equations.specs.declared.Forcing.{Forcing}
+use Rattle.equations.specs.declared.Node.{Node}
+use Rattle.equations.specs.declared.Outcome.{Outcome}
+use Rattle.equations.specs.declared.Outcome.the-variants.{Accepted as Fine, Elevation, Column}
+use Rattle.equations.specs.Operations.{_⊕_}
+use Rattle.equations.specs.Constants.{tenth}
+use Rattle.equations.specs.Outcomes.{inSize, ofRise, speed, answerOf}
+use Rattle.limits.specs.Limits.{inBounds, row12Held, row12New}
+use Rattle.mesh.specs.Lent.{Mesh, N}
+use Rattle.mesh.specs.Rows.{meshRows}
+use Rattle.bounds.specs.State.{nodeOf, runRows}
+use Rattle.bounds.proofs.StateLaws.{AcceptedRun, accepted-run, in-bounds}
+use Rattle.passes.specs.Equations.{Given, count, node, rise, flowAt, U′, V′, nextState}
+use Rattle.passes.specs.Row13.{riseRow, flowRow, row13}
+use Rattle.passes.specs.Settle.{Rooms, row1Rooms}
+use Rattle.surge.specs.Lent.{Run, windOf}
+use Rattle.surge.specs.Step.{clockRows, givenOf, advance, stepRows}
+
+-- node i of a state of four runs
+pub four-runs : (n : ℕ) (h : List Float) (a b c d : ℕ → Float) (i : ℕ) → i < n
+    → nodeOf n h (runsOf n (a ∷ b ∷ c ∷ d ∷ [])) i ≡ record { h = getD h i nan; earlier = a i; z = b i; u = c i; v = d i }
+four-runs n h a b c d i l =
+    let fs = a ∷ b ∷ c ∷ d ∷ [] in
+    λ j. record {
+      h = getD h i nan;
+      earlier = run-read n fs 0 i nan (lit< tt) l j;
+      z = run-read n fs 1 i nan (lit< tt) l j;
+      u = run-read n fs 2 i nan (lit< tt) l j;
+      v = run-read n fs 3 i nan (lit< tt) l j;
+    }
+
+-- ---- what row 13 leaves
+rise-passed-of : (h z : Float) (i : ℕ) → answerOf (ofRise h z) i .number ≡ 0 → (inSize 30 z ≡ true) × (le tenth (h ⊕ z) ≡ true)
+unfolding ofRise
+rise-passed-of h z i = go (inSize 30 z) (le tenth (h ⊕ z))
+  where
+    go : (a b : Bool) → answerOf (cond a (cond b (Fine z) (Column (h ⊕ z))) (Elevation z)) i .number ≡ 0 → (a ≡ true) × (b ≡ true)
+    go true true e = (refl, refl)
+    go true false e = absurd (omega arith)
+    go false b e = absurd (omega arith)
+
+speed-passed : (v : Float) (refusal : Outcome) (i : ℕ) → (answerOf refusal i .number ≡ 0 → ⊥) → answerOf (speed v refusal) i .number ≡ 0 → inSize 20 v ≡ true
+unfolding speed
+speed-passed v refusal i bad = go (inSize 20 v)
+  where
+    go : (a : Bool) → answerOf (cond a (Fine v) refusal) i .number ≡ 0 → a ≡ true
+    go true e = refl
+    go false e = absurd (bad e)
+
+module _ (g : Given) (e : row13 g .number ≡ 0) (i : ℕ) (l : i < count g) where
+  rise-passed : (inSize 30 (rise g i) ≡ true) × (le tenth (node g i .h ⊕ rise g i) ≡ true)
+  unfolding row13 riseRow
+  rise-passed = rise-passed-of _ _ i (scan-clean _ _ (then-first _ _ e) i l)
+
+  both-passed : flowRow (flowAt g i) i .number ≡ 0
+  unfolding row13
+  both-passed = scan-clean _ _ (then-rest _ _ e) i l
+
+  east-passed : inSize 20 (U′ g i) ≡ true
+  unfolding flowRow
+  east-passed = speed-passed _ _ i (λ q. absurd (omega (arith, q))) (then-first _ _ both-passed)
+
+  north-passed : inSize 20 (V′ g i) ≡ true
+  unfolding flowRow
+  north-passed = speed-passed _ _ i (λ q. absurd (omega (arith, q))) (then-rest _ _ both-passed)
+
+-- a node's five tests, together and apart
+pub all-five : (c : Node) → inSize 30 (c .earlier) ≡ true → inSize 30 (c .z) ≡ true → le tenth (c .h ⊕ c .z) ≡ true → inSize 20 (c .u) ≡ true → inSize 20 (c .v) ≡ true
+    → inBounds c ≡ true
+unfolding inBounds
+all-five c e z w u v = rw (e, z, w, u, v)
+
+z-passed : (c : Node) → inBounds c ≡ true → inSize 30 (c .z) ≡ true
+unfolding inBounds
+z-passed c e = both-right (inSize 30 (c .earlier)) _ (both-left _ _ (both-left _ _ (both-left _ (inSize 20 (c .v)) e)))
+
+-- ---- an accepted step
+module _ (m : Mesh) (p : Parameters) (s : Run) (f : Forcing) (r : Rooms) (first : stepRows m p s f r .number ≡ 0) (last : row13 (givenOf m p s f) .number ≡ 0) where
+  ran : AcceptedRun (row1Rooms r (N m)) m p (s .state)
+  unfolding stepRows
+  ran = accepted-run _ _ _ _ (then-first _ _ first)
+
+  pub step-mesh : meshRows accepted m p .number ≡ 0
+  step-mesh = ran .mesh
+
+  next-node : (i : ℕ) → i < N m → inBounds (nodeOf (N m) (m .h) (advance m p s f .state) i) ≡ true
+  unfolding advance nextState
+  next-node i l =
+      let g = givenOf m p s f in
+      let a = rise-passed g last i l in
+      rw (four-runs (N m) (m .h) (λ j. node g j .z) (rise g) (U′ g) (V′ g) i l)
+      (all-five _ (z-passed _ (ran .bounds i l)) (a .0) (a .1) (east-passed g last i l) (north-passed g last i l))
+
+  -- the next state passes what a call on a run asks
+  pub next-rows : runRows accepted m p (advance m p s f .state) .number ≡ 0
+  unfolding advance nextState
+  next-rows = in-bounds m p _ step-mesh (runs-length (N m) _) next-node
+
+  -- and the wind that the clock now holds passes row 12
+  pub next-wind : row12Held (windOf (advance m p s f .clock)) .number ≡ 0
+  unfolding stepRows clockRows row12New row12Held advance
+  next-wind =
+      let winds = then-rest _ _ (then-rest _ _ (then-rest _ _ (then-rest _ _ first))) in
+      let x = row-passed _ 11 2 (then-first _ _ winds) in
+      let y = row-passed _ 11 3 (then-rest _ _ winds) in
+      ap (λ (a : Answer). a .number) (row-holds 12 0 (rw (x, y)))
