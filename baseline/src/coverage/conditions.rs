@@ -6,10 +6,10 @@ use crate::frames::byte_of;
 use crate::generate::values::{Range, COLUMN, DEPTH, ELEVATION, PARAMETERS, RUNS, VELOCITY, WIND};
 use crate::generate::worlds::legs;
 use crate::mesh::{Mesh, Triangle};
+use crate::records::{Clock, Parameters};
 use crate::saves::read_lines;
 use crate::script::{Call, Called, Script};
 use crate::step::{new_values, State};
-use crate::{Clock, Parameters};
 use std::collections::HashMap;
 
 /// The conditions that a call met.
