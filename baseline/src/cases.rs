@@ -1,10 +1,10 @@
 //! Inputs on which the printing program is tried: each is a name and its bytes,
 //! made anew on every run, so that the long ones need not be stored. What the
-//! program must print for them is [`print`](crate::print)'s to say.
+//! program must print for them is [`print`](crate::printing::print)'s to say.
 
 use crate::frames::{Line, FORCING, HEAD};
 use crate::printing::Run;
-use crate::Forcing;
+use crate::records::Forcing;
 
 /// An input of the printing program.
 pub struct Case {

@@ -2,13 +2,14 @@
 //! refusal table from each call, and at each condition of its row.
 
 mod conditions;
-mod ranges;
+mod names;
+mod wanted;
 
 use crate::generate::generate;
 use crate::script::{run_watched, Call, Called, Script};
 use conditions::conditions;
-use ranges::{all_conditions, Reached};
 use std::collections::{BTreeMap, BTreeSet};
+use wanted::{all_conditions, Reached};
 
 /// Every number that a call can answer.
 const NUMBERS: [u32; 19] = [

@@ -1,7 +1,7 @@
 //! "Frames": digits, fields, check byte, the faults of a line, and the reading
 //! of one forcing line.
 
-use crate::{Answer, Forcing};
+use crate::records::{Answer, Forcing};
 
 /// The longest line, a node's: 72 digits and its line feed.
 const LONGEST_LINE: usize = 73;

@@ -1,6 +1,6 @@
 //! "What is lent", "Triangle geometry", rows 1 to 9, and opening a mesh.
 
-use crate::{within, Answer, Clock, Parameters};
+use crate::records::{within, Answer, Clock, Parameters};
 use std::collections::HashSet;
 
 /// "Each node is marked when a triangle names it, up to 4,096 marks."

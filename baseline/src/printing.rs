@@ -1,7 +1,10 @@
 //! "The printing program", and example 13 in bits.
 
-use crate::{open, read_forcing, save, step};
-use crate::{Answer, Clock, Forcing, Parameters};
+use crate::frames::read_forcing;
+use crate::mesh::open;
+use crate::records::{Answer, Clock, Forcing, Parameters};
+use crate::saves::save;
+use crate::step::step;
 
 /// "mesh T: (0,0), (100,0), (0,100), triangle 0 1 2, h 8, kinds 0, dt 1, tau,
 /// K, f 0".

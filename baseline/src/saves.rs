@@ -2,8 +2,8 @@
 
 use crate::frames::{Frame, Kind, Line, END, HEAD, NODE};
 use crate::mesh::{Lent, Mesh};
+use crate::records::{Answer, Clock, Parameters};
 use crate::step::{row_10, row_12_held_wind, State};
-use crate::{Answer, Clock, Parameters};
 
 /// The bytes of a save, line by line. Rows 1 and 2 have been tested, so that
 /// every count and sequence number fits its two bytes.

@@ -4,8 +4,11 @@
 
 pub(crate) mod slices;
 
-use crate::{load, open, read_forcing, save, step};
-use crate::{Answer, Clock, Forcing, Parameters};
+use crate::frames::read_forcing;
+use crate::mesh::open;
+use crate::records::{Answer, Clock, Forcing, Parameters};
+use crate::saves::{load, save};
+use crate::step::step;
 use slices::{Byte, Decimal, Float, Form, Held, Slice, Words};
 use std::io::Write;
 use std::mem::swap;

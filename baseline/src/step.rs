@@ -1,7 +1,7 @@
 //! Rows 10 to 13, "Elevation" and "Velocity", and the step itself.
 
 use crate::mesh::{Lent, Mesh, Triangle};
-use crate::{in_size, Answer, Clock, Forcing, Parameters};
+use crate::records::{in_size, Answer, Clock, Forcing, Parameters};
 
 /// "g is the binary64 nearest 9.81".
 const G: f64 = 9.81;

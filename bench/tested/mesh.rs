@@ -1,12 +1,17 @@
 //! Rows 1 to 9.
 
-use super::within;
 use crate::run::{Answer, Mesh};
 
 const LONGEST: i64 = 100_000;
 
 /// The most nodes that row 2 lets through.
 const MARKS: usize = 4_096;
+
+/// A NaN is outside every range.
+#[inline(always)]
+pub fn within(low: f64, v: f64, high: f64) -> bool {
+    (low <= v) & (v <= high)
+}
 
 /// How row 6 is tested.
 pub type Row6 = fn(&Mesh) -> Result<(), Answer>;

@@ -6,12 +6,6 @@ pub mod step;
 
 use crate::run::{Answer, Clock, Forcing, Mesh, Program, Rooms};
 
-/// A NaN is outside every range.
-#[inline(always)]
-fn within(low: f64, v: f64, high: f64) -> bool {
-    (low <= v) & (v <= high)
-}
-
 /// How row 6 is tested: by the legs of each node, as one would, or by pairs of triangles, as document 01 sets for the product.
 pub struct Tested {
     pub by_pairs: bool,

@@ -1,6 +1,6 @@
 //! Rows 10 to 13 and the equations. The parts of a step are functions of their own, so that each can be timed by itself.
 
-use super::{mesh, within};
+use super::mesh::{self, within};
 use crate::formulas::{new_elevation, new_velocity, shares, slope, Corner, Sides, Terms, HELD_LAND, OPEN};
 use crate::run::{Answer, Clock, Forcing, Mesh, Rooms, State};
 

@@ -1,41 +1,16 @@
 //! Which condition of a row a call met, worked out from what the script holds
 //! after it: a refusal leaves everything as found but, at 13, the work room.
 
-use super::ranges::{side, LIMITS};
+use super::names::{lent_to, side, LIMITS, PARAMETER_NAMES, RUN_NAMES};
 use crate::frames::byte_of;
 use crate::generate::values::{Range, COLUMN, DEPTH, ELEVATION, PARAMETERS, RUNS, VELOCITY, WIND};
 use crate::generate::worlds::legs;
 use crate::mesh::{Mesh, Triangle};
+use crate::records::{Clock, Parameters};
 use crate::saves::read_lines;
 use crate::script::{Call, Called, Script};
 use crate::step::{new_values, State};
-use crate::{Clock, Parameters};
 use std::collections::HashMap;
-
-/// The names of the numbers in a state's runs.
-pub(crate) const RUN_NAMES: [&str; 4] = ["earlier z", "z", "U", "V"];
-
-/// The names of the parameters.
-pub(crate) const PARAMETER_NAMES: [&str; 4] = ["dt", "tau", "K", "f"];
-
-/// The slices of row 1 beside x and the triangles, and their runs of N.
-const LENGTHS: [(&str, usize); 7] = [
-    ("y", 1),
-    ("h", 1),
-    ("kind", 1),
-    ("state", 4),
-    ("next", 4),
-    ("work", 3),
-    ("sums", 1),
-];
-
-/// The slices of row 1 that a call is lent, beside x and the triangles.
-pub(crate) fn lent_to(call: Call) -> &'static [(&'static str, usize)] {
-    match call {
-        Call::Step => &LENGTHS,
-        _ => &LENGTHS[..4],
-    }
-}
 
 /// The conditions that a call met.
 pub(crate) fn conditions(script: &Script, called: Called) -> Vec<String> {

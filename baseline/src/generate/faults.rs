@@ -7,8 +7,8 @@ use super::settings::{any_manner, clock, forcing, save_length, set_state, small_
 use super::texts::damage;
 use super::values::{lowest_elevation, tested, word};
 use super::values::{DEPTH, ELEVATION, PARAMETERS, RUNS, WIND};
+use crate::records::{Clock, Forcing, Parameters};
 use crate::script::Call;
-use crate::{Clock, Forcing, Parameters};
 
 /// Rounds of faults on one small mesh. In each, some faults are made, calls
 /// meet them, and they are undone.

@@ -5,8 +5,8 @@ use super::dice::Dice;
 use super::values::{anything, word};
 use super::worlds::World;
 use crate::frames::two_digits;
+use crate::records::{Answer, Clock, Forcing, Parameters};
 use crate::script::{Call, Script};
-use crate::{Answer, Clock, Forcing, Parameters};
 use std::fmt::Display;
 
 /// Slices up to this length are printed, longer ones as a digest.

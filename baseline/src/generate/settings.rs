@@ -4,8 +4,8 @@ use super::pen::Pen;
 use super::values::{at_edge, in_size, inside, legal, lowest_elevation, word, Range};
 use super::values::{COLUMN, DEPTH, ELEVATION, PARAMETERS, RUNS, WIND};
 use super::worlds::{world, Manner};
+use crate::records::{Clock, Forcing, Parameters};
 use crate::script::Call;
-use crate::{Clock, Forcing, Parameters};
 
 /// The numbers of calm water: elevations, velocities.
 const CALM: Range = in_size(0.03125);

@@ -1,32 +1,7 @@
-//! The sides of a range, and all that a coverage is to reach.
+//! All that a coverage is to reach.
 
-use super::conditions::{lent_to, PARAMETER_NAMES, RUN_NAMES};
-use crate::generate::values::Range;
+use super::names::{lent_to, LIMITS, PARAMETER_NAMES, RUN_NAMES, SIDES};
 use crate::script::Call;
-
-/// What is said of a value at one of its limits.
-pub(crate) const LIMITS: [&str; 2] = ["least", "most"];
-
-/// The ways to be beyond a range that must be reached.
-const SIDES: [&str; 5] = ["one bit below", "one bit above", "below", "above", "NaN"];
-
-/// The side of a range that a value is beyond, where it is.
-pub(crate) fn side(value: f64, range: Range) -> Option<&'static str> {
-    let at = if value == range.low.next_down() {
-        0
-    } else if value == range.high.next_up() {
-        1
-    } else if value < range.low {
-        2
-    } else if value > range.high {
-        3
-    } else if value.is_nan() {
-        4
-    } else {
-        return None;
-    };
-    Some(SIDES[at])
-}
 
 /// A call, a number of the refusal table, and a condition of it.
 pub(crate) type Reached = (Call, u32, String);

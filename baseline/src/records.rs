@@ -1,0 +1,105 @@
+//! What goes into the calls and comes back beside the slices: an answer, the
+//! clock, the parameters, a forcing; and when a number is in its range.
+
+/// "Each answer has number, place and value; the value is +0 except at 13, the
+/// place 0 where none is given. An accepted call has number 0 and place 0, but
+/// a save's place is the bytes it wrote."
+#[derive(Clone, Copy, Debug, PartialEq)]
+pub struct Answer {
+    /// 0 when accepted, else the row of the refusal table.
+    pub number: u32,
+    /// The triangle, node, parameter, line or byte count the row gives.
+    pub place: usize,
+    /// At row 13 the offending value, else +0.
+    pub value: f64,
+}
+
+impl Answer {
+    pub(crate) fn accepted(place: usize) -> Answer {
+        Answer::refused(0, place)
+    }
+
+    pub(crate) fn refused(number: u32, place: usize) -> Answer {
+        let value = 0.0;
+        Answer {
+            number,
+            place,
+            value,
+        }
+    }
+}
+
+/// "The clock holds the step number (32-bit unsigned) and the present wind Wx,
+/// Wy; the clock goes in and the advanced clock comes back."
+#[derive(Clone, Copy, Debug, PartialEq)]
+pub struct Clock {
+    /// The step number.
+    pub step: u32,
+    /// The present wind Wx (stress over density).
+    pub wx: f64,
+    /// The present wind Wy (stress over density).
+    pub wy: f64,
+}
+
+impl Clock {
+    /// "A cold start is all +0, step 0."
+    pub(crate) const COLD: Clock = Clock {
+        step: 0,
+        wx: 0.0,
+        wy: 0.0,
+    };
+
+    /// "the clock gains one step and holds Wx', Wy'". Row 11 has been tested,
+    /// so that the sum does not wrap.
+    pub(crate) fn advanced(self, forcing: Forcing) -> Clock {
+        Clock {
+            step: self.step.wrapping_add(1),
+            wx: forcing.wx,
+            wy: forcing.wy,
+        }
+    }
+}
+
+/// The four parameters of a run, in the order of row 9's places.
+#[derive(Clone, Copy, Debug, PartialEq)]
+pub struct Parameters {
+    /// The time step.
+    pub dt: f64,
+    /// "constant tau (the report's tau-zero)".
+    pub tau: f64,
+    /// "linear bottom friction K".
+    pub k: f64,
+    /// "Coriolis f".
+    pub f: f64,
+}
+
+/// "A forcing is the new open elevation, then new wind Wx', Wy' (stress over
+/// density)."
+#[derive(Clone, Copy, Debug, PartialEq)]
+pub struct Forcing {
+    /// The new elevation of all open nodes.
+    pub elevation: f64,
+    /// The new wind Wx'.
+    pub wx: f64,
+    /// The new wind Wy'.
+    pub wy: f64,
+}
+
+impl Forcing {
+    /// "a refused one hands back a forcing of three +0".
+    pub(crate) const ZERO: Forcing = Forcing {
+        elevation: 0.0,
+        wx: 0.0,
+        wy: 0.0,
+    };
+}
+
+/// "A range holds only if both comparisons are true, so a NaN is outside."
+pub(crate) fn within(value: f64, low: f64, high: f64) -> bool {
+    (low..=high).contains(&value)
+}
+
+/// Whether a value is not "beyond" a limit "in size".
+pub(crate) fn in_size(value: f64, limit: f64) -> bool {
+    within(value, -limit, limit)
+}
