@@ -1,7 +1,8 @@
 -- Laws of a line while it is built, and of a line put into a text. Once, over the fields and over the text.
-use Prim.Native.Nat.{ℕ, suc, _+_, _-_, _*_, _/_, _%_, _≤_, _<_}
-use mathlib.Core.Path.{_≡_, sym, ap, _∙_}
+use Prim.Native.Nat.{ℕ, zero, suc, _+_, _-_, _*_, _/_, _%_, _≤_, _<_}
+use mathlib.Core.Path.{_≡_, refl, sym, ap, _∙_}
 use mathlib.Core.List.{List, [], _∷_, _++_, append-assoc}
+use native.Mathlib.Nat.{div-div-eq-div-mul}
 use native.Mathlib.Omega.{arith}
 use borrow.Author.Tests.{le-leb, lt-leb}
 use lib.ListN.{length, take, drop, set, replicate, length-append, length-set, length-replicate, replicate-append-replicate}
@@ -17,22 +18,30 @@ use Rattle.frames.proofs.LaidLaws.{laid-more, laid-last}
 pub field-digits : (w v : ℕ) → length (digits (field w v)) ≡ 2 * w
 field-digits w v = digits-length (field w v) ∙ rw (field-length w v)
 
--- the last byte is written, and the rest of the field is left
-pub field-turn : (l : List ℕ) (at w v : ℕ) → at + 2 * w + 1 < length l
-    → laid (set (set l (at + 2 * w + 1) (digit (v % 256 % 16))) (at + 2 * w) (digit (v % 256 / 16))) at (digits (field w (v / 256)))
-    ≡ laid l at (digits (field (suc w) v))
-unfolding field digits
-field-turn l at w v h =
-    let x = digits (field w (v / 256)) in
-    let high = digit (v % 256 / 16) in
-    let low = digit (v % 256 % 16) in
-    let short : length x ≡ 2 * w = field-digits w (v / 256) in
-    let long : at + length (x ++ (high ∷ [])) ≡ at + 2 * w + 1 = rw (length-append x (high ∷ []), short) (omega arith) in
-    ap (λ (k : ℕ). laid (set (set l (at + 2 * w + 1) low) (at + k) high) at x) (sym short)
-    ∙ laid-last (set l (at + 2 * w + 1) low) at x high (rw (length-set, short) (omega arith))
-    ∙ ap (λ (k : ℕ). laid (set l k low) at (x ++ (high ∷ []))) (sym long)
-    ∙ laid-last l at (x ++ (high ∷ [])) low (rw long h)
-    ∙ ap (laid l at) (append-assoc x (high ∷ []) (low ∷ []) ∙ sym (digits-join (field w (v / 256)) (v % 256 ∷ [])))
+-- its digits one by one
+unfoldable pub hex : ℕ → ℕ → List ℕ
+hex zero v = []
+hex (suc k) v = hex k (v / 16) ++ (digit (v % 16) ∷ [])
+
+nibbles : (v : ℕ) → (v / 16 % 16 ≡ v % 256 / 16) × (v % 16 ≡ v % 256 % 16)
+nibbles v = (omega arith, omega arith)
+
+pub hex-field : (w v : ℕ) → hex (2 * w) v ≡ digits (field w v)
+unfolding hex field digits
+hex-field zero v = refl
+hex-field (suc w) v =
+    let two : 2 * suc w ≡ suc (suc (2 * w)) = omega arith in
+    rw (digits-join (field w (v / 256)) (v % 256 ∷ []), two, div-div-eq-div-mul v 16 16, nibbles v .0, nibbles v .1, hex-field w (v / 256), append-assoc)
+
+hex-length : (k v : ℕ) → length (hex k v) ≡ k
+unfolding hex
+hex-length zero v = refl
+hex-length (suc k) v = rw (length-append, hex-length k (v / 16)) (omega arith)
+
+-- the last digit is written, and the rest of the field is left
+pub hex-turn : (l : List ℕ) (at k v : ℕ) → at + k < length l → laid (set l (at + k) (digit (v % 16))) at (hex k (v / 16)) ≡ laid l at (hex (suc k) v)
+unfolding hex
+hex-turn l at k v h = rw hex-length at (laid-last l at (hex k (v / 16)) (digit (v % 16)) (rw hex-length h))
 
 -- ---- appending, with and without room
 module _ (l : Line) (t : List ℕ) where

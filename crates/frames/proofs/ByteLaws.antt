@@ -10,7 +10,7 @@ use borrow.Author.Tests.{lt-ltb, ltb-true, ltb-false, le-leb, lt-leb}
 use lib.Dec.{lit<, ltb}
 use lib.ListN.{length, drop, getD, length-append}
 use lib.Seq.{drop-cons}
-use Rattle.frames.specs.Bytes.{digit, worth, isDigit, digits, byte, bytes, allDigits, field}
+use Rattle.frames.specs.Bytes.{digit, worth, isDigit, areDigits, digits, byte, bytes, allDigits, field}
 
 -- ---- a digit is worth what it was written for
 worth-digit : (n : ℕ) → n < 16 → worth (digit n) ≡ n
@@ -83,19 +83,9 @@ module _ (s : List ℕ) (k : ℕ) (h : 2 * k + 1 < length s) where
       let h1 : suc (2 * k) < length s = omega arith in
       rw (e, add-one, drop-cons s (2 * k) 0 h0, drop-cons s (suc (2 * k)) 0 h1)
 
-  pub bytes-pair : bytes (drop (2 * k) s) ≡ byte (getD s (2 * k) 0) (getD s (2 * k + 1) 0) ∷ bytes (drop (2 * (k + 1)) s)
-  unfolding bytes
-  bytes-pair = rw pair
-
-  pub digits-pair : allDigits (drop (2 * k) s) ≡ (isDigit (getD s (2 * k) 0) && isDigit (getD s (2 * k + 1) 0) && allDigits (drop (2 * (k + 1)) s))
+  pub digits-pair : allDigits (drop (2 * k) s) ≡ (areDigits s k && allDigits (drop (2 * (k + 1)) s))
   unfolding allDigits
   digits-pair = rw pair
-
-pub bytes-none : (l : List ℕ) → length l ≤ 1 → bytes l ≡ []
-unfolding bytes
-bytes-none [] h = refl
-bytes-none (a ∷ []) h = refl
-bytes-none (a ∷ b ∷ l) h = absurd (omega arith)
 
 pub digits-none : (l : List ℕ) → length l ≤ 1 → allDigits l ≡ true
 unfolding allDigits
@@ -125,12 +115,3 @@ bytes-small [] k = lit< tt
 bytes-small (a ∷ []) k = lit< tt
 bytes-small (a ∷ b ∷ s) zero = omega arith
 bytes-small (a ∷ b ∷ s) (suc k) = bytes-small s k
-
--- ---- tests joined
-pub and-true : (a : Bool) → (a && true) ≡ a
-and-true true = refl
-and-true false = refl
-
-pub and-more : (a b c d : Bool) → (a && b && c && d) ≡ (a && (b && c && d))
-and-more true b c d = refl
-and-more false b c d = refl

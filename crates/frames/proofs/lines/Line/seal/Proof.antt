@@ -9,9 +9,6 @@ use Rattle.frames.proofs.BuildLaws.{sealed-full, sealed-room}
 use Rattle.frames.proofs.lines.Line.seal.Statement.{statement}
 use Rattle.frames.proofs.lines.Line.seal.Tie as tie
 
-returns : tie.Need-returns
-returns c = sym (sealed-full (c .before .args .self) (omega arith))
-
 part-tallied-end : tie.Need-part-tallied-end
 part-tallied-end c = let z : length (c .before .before .before .args .self .bytes) ≡ room = search needs in search needs
 
@@ -29,5 +26,5 @@ returns-2 c =
 pub seal-spec : {M : Type 1} → statement M
 seal-spec =
     tie.close
-    (tie.spec returns (λ c. search needs) (λ c. search needs) part-tallied-end (λ c κs. search needs) sub-append (λ c κs. search needs)
+    (tie.spec (λ c. sym (sealed-full _ (omega arith))) (λ c. omega arith) (λ c. omega arith) part-tallied-end (λ c κs. tt) sub-append (λ c κs. tt)
     (λ c. search needs) (λ c. search needs) (λ c. search needs) returns-2)
