@@ -5,8 +5,8 @@ use mathlib.Core.List.{List, [], _∷_, _++_, append-assoc}
 use native.Mathlib.Nat.{div-div-eq-div-mul}
 use native.Mathlib.Omega.{arith}
 use borrow.Author.Tests.{le-leb, lt-leb}
-use lib.ListN.{length, take, drop, set, replicate, length-append, length-set, length-replicate, replicate-append-replicate}
-use lib.Seq.{length-take-le, paste, drop-at, drop-append-add, take-append-seam}
+use lib.ListN.{length, drop, set, replicate, length-append, length-replicate, replicate-append-replicate}
+use lib.Seq.{drop-at, drop-append-add, take-append-seam}
 use Rattle.frames.specs.declared.lines.Line.{Line}
 use Rattle.frames.specs.Bytes.{digit, digits, bytes, field, sum, check}
 use Rattle.frames.specs.Frames.{lineFeed}
@@ -53,21 +53,14 @@ module _ (l : Line) (t : List ℕ) where
   unfolding appended
   appended-full h = rw (lt-leb (l .len + length t) room h)
 
-pub sealed-full : (l : Line) → room < l .len + 3 → sealed l ≡ l
-unfolding sealed digits
-sealed-full l h = appended-full l _ h
-
-with-len : ℕ → List ℕ → Line
-with-len n b = record { bytes = b; len = n }
-
 -- the check byte is a field of one byte, and the line feed stands after it
 pub sealed-room : (l m : Line) → length (l .bytes) ≡ room → l .len + 3 ≤ room → m ≡ appended l (digits (field 1 (256 - sum (bytes (written l)) % 256)))
     → _≡_ {A = Line} (record { bytes = set (m .bytes) (l .len + 2) lineFeed; len = l .len + 3 }) (sealed l)
-unfolding sealed digits field check with-len
+unfolding sealed digits field check
 sealed-room l m n h e =
     let t = digits (field 1 (256 - sum (bytes (written l)) % 256)) in
     rw (e, appended-room l t (omega arith), appended-room l (t ++ (lineFeed ∷ [])) h)
-    (ap (with-len (l .len + 3)) (laid-more (l .bytes) (l .len) t lineFeed (omega arith)))
+    (λ i. record { bytes = laid-more (l .bytes) (l .len) t lineFeed (omega arith) i; len = l .len + 3 })
 
 -- ---- a line that holds a text
 pub written-holding : (t : List ℕ) → written (holding t) ≡ t
@@ -85,20 +78,15 @@ appended-holding t u h =
     appended-room (holding t) u h
     ∙ rw (length-append t u, take-append-seam t (replicate (room - length t) 0), drop-append-add t (replicate (room - length t) 0) (length u), m, past (length u) k)
 
--- ---- a line put into a text: n of its bytes
-module _ (text : List ℕ) (at : ℕ) (l : Line) (n : ℕ) (w : written l ≡ take n (l .bytes)) (s : n ≤ length (l .bytes)) where
-  long : length (written l) ≡ n
-  long = ap length w ∙ length-take-le n (l .bytes) s
-
-  pub put-fits : at + n ≤ length text → putOf text at l ≡ putOut (at + n) (paste text at (l .bytes) n)
-  unfolding putOf laid
-  put-fits h = rw (long, le-leb (at + n) (length text) h, w)
-
-  pub put-not : length text < at + n → putOf text at l ≡ putOut at text
+-- ---- a line that holds t, put into a text
+module _ (text : List ℕ) (at : ℕ) (l : Line) {t : List ℕ} (w : written l ≡ t) where
+  pub put-fits : at + length t ≤ length text → putOf text at l ≡ putOut (at + length t) (laid text at t)
   unfolding putOf
-  put-not h = rw (long, lt-leb (at + n) (length text) h)
+  put-fits h = rw (w, le-leb (at + length t) (length text) h)
 
--- a line that holds a text is laid whole
+  pub put-not : length text < at + length t → putOf text at l ≡ putOut at text
+  unfolding putOf
+  put-not h = rw (w, lt-leb (at + length t) (length text) h)
+
 pub put-holding : (text : List ℕ) (at : ℕ) (t : List ℕ) → at + length t ≤ length text → putOf text at (holding t) ≡ putOut (at + length t) (laid text at t)
-unfolding putOf
-put-holding text at t h = rw (written-holding t, le-leb (at + length t) (length text) h)
+put-holding text at t h = put-fits text at (holding t) (written-holding t) h

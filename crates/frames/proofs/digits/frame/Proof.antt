@@ -25,13 +25,8 @@ loop-again c =
     let m : k < length b = rw bytes-length (omega arith) in
     (omega arith, simp length-set (p .loop .inv .1), rw (add-one, take-suc-set (p .loop .out) k (r .pair-at .result .byte) l, take-suc b k 0 m, p .loop .inv .2, r .pair-at .ensures .0))
 
-returns : tie.Need-returns Inv-loop μ-loop
-returns c =
-    let p = c .before in
-    let last : p .loop .k ≡ 36 = omega arith in
-    sym (take-all 36 (p .loop .out) (omega arith)) ∙ (rw last at (p .loop .inv .2))
-
 pub frame-spec : {M : Type 1} → statement M
 frame-spec =
     tie.close
-    (tie.spec Inv-loop μ-loop (λ c. (omega arith, refl, refl)) (λ c κs. omega arith) (λ c. omega arith) (λ c. omega arith) (λ c. omega arith) (λ c. omega arith) loop-again returns)
+    (tie.spec Inv-loop μ-loop (λ c. (omega arith, refl, refl)) (λ c κs. omega arith) (λ c. omega arith) (λ c. omega arith) (λ c. omega arith) (λ c. omega arith) loop-again
+    (λ c. let last : c .before .loop .k ≡ 36 = omega arith in sym (take-all 36 (c .before .loop .out) (omega arith)) ∙ (rw last at (c .before .loop .inv .2))))

@@ -1,5 +1,4 @@
 use native.Mathlib.Omega.{arith}
-use borrow.Author.Needs.{needs}
 use Rattle.frames.specs.Bytes.{byte}
 use Rattle.frames.proofs.ByteLaws.{bytes-at}
 use Rattle.frames.proofs.digits.pair_at.Statement.{statement}

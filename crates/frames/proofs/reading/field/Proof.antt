@@ -4,7 +4,7 @@ use native.Mathlib.Omega.{arith}
 use borrow.Author.Needs.{needs}
 use lib.ListN.{length, take, drop}
 use Rattle.frames.specs.Bytes.{number}
-use Rattle.frames.proofs.NumberLaws.{number-room, number-grows, number-more}
+use Rattle.frames.proofs.ByteLaws.{number-room, number-grows, number-more}
 use Rattle.frames.proofs.reading.field.Statement.{statement}
 use Rattle.frames.proofs.reading.field.Tie as tie
 

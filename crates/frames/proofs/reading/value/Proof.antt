@@ -7,8 +7,7 @@ use lib.ListN.{length, take, drop, drop-of-length-le}
 use lib.Seq.{take-nil}
 use Rattle.frames.specs.Bytes.{bytes, number}
 use Rattle.frames.specs.Reading.{value}
-use Rattle.frames.proofs.ByteLaws.{bytes-length}
-use Rattle.frames.proofs.NumberLaws.{number-room, number-grows, number-more, number-ends}
+use Rattle.frames.proofs.ByteLaws.{bytes-length, number-room, number-grows, number-more, number-ends}
 use Rattle.frames.proofs.reading.value.Statement.{statement}
 use Rattle.frames.proofs.reading.value.Tie as tie
 
