@@ -1,10 +1,10 @@
 -- The input read 57 bytes at a time, and the input cut at line feeds: the same is printed, whatever the bytes are.
-use Prim.Native.Nat.{ℕ, zero, suc, _+_, _*_, _%_, _≤_}
+use Prim.Native.Nat.{ℕ, zero, suc, _+_, _*_, _≤_}
 use mathlib.Core.Path.{_≡_, refl, sym, ap, _∙_}
 use mathlib.Core.Bool.{Bool, true, false, cond, _&&_}
 use mathlib.Core.List.{List, [], _∷_, _++_}
 use native.Mathlib.Omega.{arith}
-use borrow.Author.Tests.{eqb-true, eq-eqb}
+use borrow.Author.Tests.{eqb-true, eq-eqb, ne-eqb}
 use lib.Dec.{eqb}
 use lib.ListN.{length, take, drop, getD, length-drop, take-append-drop}
 use lib.Seq.{take-at}
@@ -44,11 +44,7 @@ first b (c ∷ cs) = go (eqb b lineFeed) refl (first c cs)
 -- ---- a line that row 20 passes has its only line feed at its end
 no-feed : (a : ℕ) → isDigit a ≡ true → eqb a lineFeed ≡ false
 unfolding worth
-no-feed a h = go (eqb a lineFeed) refl
-  where
-    go : (t : Bool) → eqb a lineFeed ≡ t → t ≡ false
-    go true e = sym (rw (eqb-true a lineFeed e) at h)
-    go false e = refl
+no-feed a h = ne-eqb a lineFeed (λ e. let no = rw e at h in let z : _≡_ {A = ℕ} 0 1 = cc no in omega arith)
 
 clean : (k : ℕ) (p t : List ℕ) → length p ≡ 2 * k + 1 → allDigits p ≡ true → getD p (2 * k) 0 ≡ lineFeed → linesOf (p ++ t) ≡ p ∷ linesOf t
 unfolding linesOf allDigits
@@ -69,12 +65,10 @@ fine line = isFramed line 56 && allDigits line
 framed : (p : List ℕ) → fine p ≡ true → (length p ≡ 57) × (getD p 56 0 ≡ lineFeed) × (allDigits p ≡ true)
 unfolding isFramed
 framed p h =
-    let f = both-left (eqb (length p) 57 && eqb (56 % 2) 0 && eqb (getD p 56 0) lineFeed) (allDigits p) h in
-    let g = both-left (eqb (length p) 57 && eqb (56 % 2) 0) (eqb (getD p 56 0) lineFeed) f in (
-      eqb-true _ _ (both-left (eqb (length p) 57) (eqb (56 % 2) 0) g),
-      eqb-true _ _ (both-right (eqb (length p) 57 && eqb (56 % 2) 0) (eqb (getD p 56 0) lineFeed) f),
-      both-right (eqb (length p) 57 && eqb (56 % 2) 0 && eqb (getD p 56 0) lineFeed) (allDigits p) h,
-    )
+    let long = eqb (length p) 57 in
+    let ended = eqb (getD p 56 0) lineFeed in
+    let f = both-left (long && true && ended) (allDigits p) h in
+    (eqb-true _ _ (both-left long true (both-left (long && true) ended f)), eqb-true _ _ (both-right (long && true) ended f), both-right (long && true && ended) (allDigits p) h)
 
 -- where the first 57 bytes are fine, they are the first line
 piece-line : (s : List ℕ) → fine (take 57 s) ≡ true → linesOf s ≡ take 57 s ∷ linesOf (drop 57 s)
