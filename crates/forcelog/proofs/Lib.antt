@@ -3,4 +3,4 @@ pub mod MeshLaws
 pub mod WordLaws
 pub mod PieceLaws
 pub mod EmptyLaws
-pub mod KeptLaws
+pub mod SavableLaws

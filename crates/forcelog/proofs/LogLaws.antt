@@ -1,7 +1,7 @@
 -- The outcomes of taking a line: not read, read and refused by the step, and stepped. And how many lines can be taken.
 use Prim.Native.Nat.{ℕ, _+_, _<_}
 use mathlib.Core.Path.{_≡_, refl, sym, ap, _∙_}
-use mathlib.Core.Bool.{Bool, true, false}
+use mathlib.Core.Bool.{Bool, true, false, cond}
 use mathlib.Core.List.{List}
 use borrow.Author.Tests.{eqb-true, eqb-false, eq-eqb, ne-eqb}
 use lib.Dec.{eqb}
@@ -25,14 +25,14 @@ read-below line expected h =
 
 -- ---- by the answer of the step
 module _ (log : Log) (out s : StepOut) (e : out ≡ s) where
-  its-step : afterStep out log ≡ afterStep s log
-  its-step = ap (λ (x : StepOut). afterStep x log) e
+  same-step : afterStep out log ≡ afterStep s log
+  same-step = ap (λ (x : StepOut). afterStep x log) e
 
   pub step-refused : (out .reply .answer .number ≡ 0 → ⊥) → refusedAt (out .reply .answer) log ≡ afterStep s log
-  step-refused h = rw (ne-eqb _ _ h) at its-step
+  step-refused h = rw (ne-eqb _ _ h) at same-step
 
   pub step-gone : out .reply .answer .number ≡ 0 → gone out log ≡ afterStep s log
-  step-gone h = rw (eq-eqb _ _ h) at its-step
+  step-gone h = rw (eq-eqb _ _ h) at same-step
 
 -- ---- by the answer of the line
 module _ (line : List ℕ) (log : Log) (r : Taken) (e : r ≡ takenOf line (log .lines)) where
@@ -51,35 +51,28 @@ module _ (line : List ℕ) (log : Log) (r : Taken) (e : r ≡ takenOf line (log 
     line-below = read-below line (log .lines) (ap (λ (x : Taken). x .answer .number) (sym e) ∙ h)
 
 -- ---- what a caller learns of a line that is taken
-step-counted : (s : StepOut) (log : Log) → afterStep s log .answer .number ≡ 0 → (s .reply .answer .number ≡ 0) × (afterStep s log ≡ gone s log)
-step-counted s log h = go (eqb (s .reply .answer .number) 0) refl
+-- of a refusal y and what else there would be, x: an outcome that accepts is x, since y refuses
+chosen : (x y : Took) → cond (eqb (y .answer .number) 0) x y .answer .number ≡ 0 → (y .answer .number ≡ 0) × (cond (eqb (y .answer .number) 0) x y ≡ x)
+chosen x y h = go (eqb (y .answer .number) 0) refl
   where
-    go : (b : Bool) → eqb (s .reply .answer .number) 0 ≡ b → (s .reply .answer .number ≡ 0) × (afterStep s log ≡ gone s log)
+    go : (b : Bool) → eqb (y .answer .number) 0 ≡ b → (y .answer .number ≡ 0) × (cond (eqb (y .answer .number) 0) x y ≡ x)
     go true q = (eqb-true _ _ q, rw q)
     go false q = absurd (eqb-false _ _ q (rw q at h))
 
+abbrev its-step : List ℕ → Log → StepOut
+its-step line log = stepped log (takenOf line (log .lines) .forcing)
+
 module _ (line : List ℕ) (log : Log) (h : takeOf line log .answer .number ≡ 0) where
-  line-read : takenOf line (log .lines) .answer .number ≡ 0
-  line-read = go (eqb (takenOf line (log .lines) .answer .number) 0) refl
-    where
-      go : (b : Bool) → eqb (takenOf line (log .lines) .answer .number) 0 ≡ b → takenOf line (log .lines) .answer .number ≡ 0
-      go true q = eqb-true _ _ q
-      go false q = ap (λ (t : Took). t .answer .number) (not-read line log _ refl (eqb-false _ _ q)) ∙ h
-
-  by-step : afterStep (stepped log (takenOf line (log .lines) .forcing)) log ≡ takeOf line log
-  by-step = was-read line log _ refl line-read
-
-  its-outcome : (stepped log (takenOf line (log .lines) .forcing) .reply .answer .number ≡ 0)
-      × (afterStep (stepped log (takenOf line (log .lines) .forcing)) log ≡ gone (stepped log (takenOf line (log .lines) .forcing)) log)
-  its-outcome = step-counted (stepped log (takenOf line (log .lines) .forcing)) log (ap (λ (t : Took). t .answer .number) by-step ∙ h)
+  read : (takenOf line (log .lines) .answer .number ≡ 0) × (takeOf line log ≡ afterStep (its-step line log) log)
+  unfolding takeOf
+  read = chosen (afterStep (its-step line log) log) (refusedAt (takenOf line (log .lines) .answer) log) h
 
   -- it is the step's, which accepted
-  pub step-accepted : stepped log (takenOf line (log .lines) .forcing) .reply .answer .number ≡ 0
-  step-accepted = its-outcome .0
-
-  pub took-step : takeOf line log ≡ gone (stepped log (takenOf line (log .lines) .forcing)) log
-  took-step = sym by-step ∙ its-outcome .1
+  pub took-step : ((its-step line log) .reply .answer .number ≡ 0) × (takeOf line log ≡ gone (its-step line log) log)
+  took-step =
+      let s = chosen (gone (its-step line log) log) (refusedAt ((its-step line log) .reply .answer) log) (ap (λ (t : Took). t .answer .number) (sym (read .1)) ∙ h) in
+      (s .0, read .1 ∙ s .1)
 
   -- it is counted, and it was not past the last
   pub counted : (takeOf line log .log .lines ≡ log .lines + 1) × (log .lines < 65536)
-  counted = (ap (λ (t : Took). t .log .lines) took-step, read-below line (log .lines) line-read)
+  counted = (ap (λ (t : Took). t .log .lines) (took-step .1), read-below line (log .lines) (read .0))

@@ -1,22 +1,23 @@
 -- Laws of the text of a refusal: numerals, and a room that is written part by part.
 use Prim.Native.Nat.{ℕ, zero, suc, _+_, _-_, _*_, _/_, _%_, _^_, _<_, _≤_}
-use mathlib.Core.Path.{_≡_, refl, sym, ap, _∙_}
+use mathlib.Core.Path.{_≡_, refl, ap, _∙_}
 use mathlib.Core.List.{List, [], _∷_, _++_}
 use mathlib.Core.Bool.{Bool, true, false, cond}
 use native.Mathlib.Nat.{pow-suc, one-le-pow, pow-le-pow-right}
 use native.Mathlib.Omega.{arith}
-use borrow.Author.Tests.{lt-ltb, le-ltb, leb-true, leb-false}
-use lib.Dec.{lit<, leb, ltb}
+use borrow.Author.Tests.{lt-ltb, le-ltb, le-leb, leb-true, leb-false}
+use lib.Dec.{lit<, lit≤, leb, ltb}
 use lib.ListN.{length, take, drop, replicate, length-append}
+use lib.Seq.{take-append-seam, drop-append-add}
 use Rattle.io.specs.Digits.{digits, Fewest}
 use Rattle.lists.specs.declared.rows.Answer.{Answer}
 use Rattle.frames.specs.Building.{laid}
-use Rattle.frames.proofs.LaidLaws.{laid-next}
+use Rattle.frames.specs.Frames.{lineFeed}
 use Rattle.forcelog.specs.declared.Words.{Words}
-use Rattle.forcelog.specs.Printed.{numeralOf, numeral, refusal, roomOfWords, words}
+use Rattle.forcelog.specs.Printed.{numeralOf, numeral, refusedWord, atWord, refusal, roomOfWords, words, joined}
 
 -- ---- the fewest digits that hold a number are its numeral
-pub digits-numeral : (most k n : ℕ) → k ≤ most → Fewest 10 1 n k → digits 10 k n ≡ numeralOf most n
+digits-numeral : (most k n : ℕ) → k ≤ most → Fewest 10 1 n k → digits 10 k n ≡ numeralOf most n
 unfolding numeralOf
 digits-numeral most zero n h f = absurd (omega (arith, f .0))
 digits-numeral zero (suc k) n h f = absurd (omega (arith, h))
@@ -34,7 +35,7 @@ digits-numeral (suc most) (suc (suc k)) n h f =
     rw (le-ltb n 10 (omega arith), lt-ltb (n % 10) 10 (omega arith)) (ap (λ (l : List ℕ). l ++ ((48 + n % 10) ∷ [])) front)
 
 -- 20 digits hold a number of 64 bits
-pub few-digits : (n k : ℕ) → n < 18446744073709551616 → Fewest 10 1 n k → k ≤ 20
+few-digits : (n k : ℕ) → n < 18446744073709551616 → Fewest 10 1 n k → k ≤ 20
 few-digits n k h f = go (leb k 20) refl
   where
     go : (b : Bool) → leb k 20 ≡ b → k ≤ 20
@@ -49,30 +50,6 @@ pub is-numeral : (text : List ℕ) {k n : ℕ} → n < 18446744073709551616 → 
 unfolding numeral
 is-numeral text {k} {n} h f e = e ∙ digits-numeral 20 k n (few-digits n k h f) f
 
--- ---- what is written so far, and the place after it
-pub record Held (text : List ℕ) (at : ℕ) (done : List ℕ) : Type 0 where
-  pub bytes : text ≡ done ++ drop (length done) (replicate roomOfWords 0)
-  pub long : at ≡ length done
-
-pub held-none : Held (replicate roomOfWords 0) 0 []
-held-none = record { bytes = refl; long = refl }
-
-pub held-put : {text new : List ℕ} {at next : ℕ} {done : List ℕ} (part : List ℕ) → Held text at done → (next ≡ at + length part) × (new ≡ laid text at part)
-    → Held new next (done ++ part)
-held-put {done = done} part h e = record {
-  bytes = e .1 ∙ (λ i. laid (h .bytes i) (h .long i) part) ∙ laid-next done (replicate roomOfWords 0) part;
-  long = e .0 ∙ ap (λ (n : ℕ). n + length part) (h .long) ∙ sym (length-append done part);
-}
-
-zeros-left : (k n : ℕ) → drop {A = ℕ} k (replicate n 0) ≡ replicate (n - k) 0
-zeros-left zero n = let e : n - 0 ≡ n = omega arith in rw e
-zeros-left (suc k) zero = let e : 0 - suc k ≡ 0 = omega arith in rw e
-zeros-left (suc k) (suc n) = let e : suc n - suc k ≡ n - k = omega arith in rw e (zeros-left k n)
-
-pub held-words : {text : List ℕ} {at : ℕ} {done : List ℕ} → Held text at done → _≡_ {A = Words} (record { bytes = text; len = at }) (words done)
-unfolding words
-held-words {done = done} h = λ i. record { bytes = (h .bytes ∙ ap (λ (l : List ℕ). done ++ l) (zeros-left (length done) roomOfWords)) i; len = h .long i }
-
 -- ---- the room holds every refusal
 numeral-short : (most n : ℕ) → length (numeralOf most n) ≤ most
 unfolding numeralOf
@@ -86,6 +63,32 @@ numeral-short (suc most) n = rw length-append (go (ltb n 10) (numeral-short most
 refusal-short : (a : Answer) → length (refusal a) ≤ roomOfWords
 unfolding refusal numeral
 refusal-short a = simp length-append (omega (arith, numeral-short 20 (a .number), numeral-short 20 (a .place)))
+
+-- ---- a text written part by part
+zeros-left : (k n : ℕ) → drop {A = ℕ} k (replicate n 0) ≡ replicate (n - k) 0
+zeros-left zero n = let e : n - 0 ≡ n = omega arith in rw e
+zeros-left (suc k) zero = let e : 0 - suc k ≡ 0 = omega arith in rw e
+zeros-left (suc k) (suc n) = let e : suc n - suc k ≡ n - k = omega arith in rw e (zeros-left k n)
+
+joined-words : (t u : List ℕ) → length t + length u ≤ roomOfWords → joined (words t) u ≡ words (t ++ u)
+unfolding joined words laid
+joined-words t u h =
+    let left : roomOfWords - length t - length u ≡ roomOfWords - (length t + length u) = omega arith in
+    rw (le-leb (length t + length u) roomOfWords h, length-append t u, take-append-seam t (replicate (roomOfWords - length t) 0))
+    (rw (drop-append-add t (replicate (roomOfWords - length t) 0) (length u), zeros-left, left))
+
+pub refusal-joined : (a : Answer) {r p : List ℕ} → r ≡ numeral (a .number) → p ≡ numeral (a .place)
+    → joined (joined (joined (joined (joined (words []) refusedWord) r) atWord) p) (lineFeed ∷ []) ≡ words (refusal a)
+unfolding refusal
+refusal-joined a u v =
+    let x = numeral (a .number) in
+    let y = numeral (a .place) in
+    let short = simp length-append at (refusal-short a) in
+    let n = length-append refusedWord x in
+    let m = length-append (refusedWord ++ x) atWord in
+    let l = length-append (refusedWord ++ x ++ atWord) y in
+    rw (u, v, joined-words [] refusedWord (lit≤ tt), joined-words refusedWord x (omega arith), joined-words (refusedWord ++ x) atWord (omega arith))
+    (rw (joined-words (refusedWord ++ x ++ atWord) y (omega arith), joined-words (refusedWord ++ x ++ atWord ++ y) (lineFeed ∷ []) (omega arith)))
 
 -- what a caller learns: its bytes are as many as its length says, or more
 pub words-fit : (a : Answer) (w : Words) → w ≡ words (refusal a) → w .len ≤ length (w .bytes)

@@ -2,4 +2,4 @@ pub mod MeshT
 pub mod Log
 pub mod Printed
 pub mod Empty
-pub mod Kept
+pub mod Savable

@@ -6,10 +6,8 @@ use surge::Clock;
 ghost use mathlib.Core.Path.{_≡_};
 ghost use Rattle.saves.specs.Save.{saveOut};
 ghost use Rattle.forcelog.specs.Log.{coldLog, stepped, refusedAt, afterStep, takeOf, endOf};
-ghost use Rattle.forcelog.specs.Printed.{refusal, words};
-ghost use Rattle.frames.specs.Building.{laid};
-ghost use lib.ListN.{length};
-ghost use Prim.Native.Nat.{_<_, _≤_, _+_};
+ghost use Rattle.forcelog.specs.Printed.{refusal, words, joined};
+ghost use Prim.Native.Nat.{_<_};
 
 // Mesh T.
 const X: [i32; 3] = [0, 100, 0];
@@ -42,9 +40,12 @@ pub struct Took {
     pub log: Log,
 }
 
+// Room for every refusal.
+const ROOM: usize = 53;
+
 // A text while it is printed: its bytes, 0 past its length.
 pub struct Words {
-    pub bytes: [u8; 53],
+    pub bytes: [u8; ROOM],
     pub len: usize,
 }
 
@@ -136,31 +137,41 @@ pub fn end(text: &mut [u8], log: Log) -> Answer
     saves::save(text, &state, &X, &Y, &TRI, &H, &KIND, P, log.clock)
 }
 
-// Writes `part` over the text from `at` on, and hands back the place after it.
-fn put(text: &mut [u8], at: usize, part: &[u8]) -> usize
-    requires { ⌜ at + length (now part) ≤ length (now text) ⌝ }
-    ensures { λ r. ⌜ (r ≡ at + length (now (part .entry))) × (now (text .exit) ≡ laid (now (text .entry)) at (now (part .entry))) ⌝ }
+// The text with `part` after it; unchanged where there is no room.
+fn with(text: Words, part: &[u8]) -> Words
+    ensures { λ r. ⌜ r ≡ joined text (now (part .entry)) ⌝ }
 {
+    let at = text.len;
     let n = part.len();
-    for k in 0..n {
-        text[at + k] = part[k];
+    if ROOM < n {
+        return text;
     }
-    at + n
+    if ROOM - n < at {
+        return text;
+    }
+    let mut bytes = text.bytes;
+    for k in 0..n {
+        bytes[at + k] = part[k];
+    }
+    let len = at + n;
+    Words { bytes, len }
 }
 
 // `refused R at P` and a line feed.
 pub fn refusal(answer: Answer) -> Words
     ensures { λ r. ⌜ r ≡ words (refusal answer) ⌝ }
 {
-    let mut bytes = [0u8; 53];
     let mut number = [0u8; 20];
     let mut place = [0u8; 20];
     let r = io::decimal(answer.number as u64, &mut number);
     let p = io::decimal(answer.place as u64, &mut place);
-    let at = put(&mut bytes, 0, b"refused ");
-    let at = put(&mut bytes, at, &number[..r]);
-    let at = put(&mut bytes, at, b" at ");
-    let at = put(&mut bytes, at, &place[..p]);
-    let len = put(&mut bytes, at, b"\n");
-    Words { bytes, len }
+    let text = Words {
+        bytes: [0u8; ROOM],
+        len: 0,
+    };
+    let text = with(text, b"refused ");
+    let text = with(text, &number[..r]);
+    let text = with(text, b" at ");
+    let text = with(text, &place[..p]);
+    with(text, b"\n")
 }

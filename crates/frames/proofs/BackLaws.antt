@@ -14,8 +14,7 @@ use Rattle.lists.proofs.ScanLaws.{row-holds}
 use Rattle.frames.specs.Bytes.{digits, allDigits, field, check}
 use Rattle.frames.specs.Frames.{Field, Frame, Held, wide, opening, allFields, fieldBytes, checked, frameBytes, lineFeed, text, widthsOf, digitsOf, byteOf, fieldAt}
 use Rattle.frames.specs.Reading.{value, isFramed, row20, row21, row22, fault}
-use Rattle.frames.proofs.ByteLaws.{digits-right, digits-length, field-length}
-use Rattle.frames.proofs.NumberLaws.{number-back, number-small}
+use Rattle.frames.proofs.ByteLaws.{digits-right, digits-length, field-length, number-back, number-small}
 use Rattle.frames.proofs.FrameLaws.{fields-before, fields-join, checked-sum, frame-bytes, line-digits, text-length, text-bytes}
 
 -- ---- a value that is read is small enough for its width, on every line
@@ -50,22 +49,15 @@ module _ (f : Frame) where
       ∙ value-back (o ++ take j (f .fields)) (fieldAt (f .fields) j) (drop (suc j) (f .fields))
       (ap (λ (l : List Field). o ++ l) (split-at (f .fields) j (wide 0 0) l)) h
 
-  even : digitsOf (widthsOf (f .fields)) % 2 ≡ 0
-  even = rw (← line-digits f, digits-length (frameBytes f)) (omega arith)
-
-  feed : getD (text f) (digitsOf (widthsOf (f .fields))) 0 ≡ lineFeed
-  unfolding text
-  feed = getD-at (digits (frameBytes f)) lineFeed [] 0 (digitsOf (widthsOf (f .fields))) (line-digits f)
-
-  right : allDigits (text f) ≡ true
-  unfolding text allDigits
-  right = digits-right (frameBytes f) (lineFeed ∷ []) (frame-bytes f)
-
   -- a frame's line is read without fault, by its own digits, kind and sequence
   pub line-fine : (place : ℕ) → f .kind < 256 → f .sequence < 65536 → fault (text f) (digitsOf (widthsOf (f .fields))) (f .kind) (f .sequence) place ≡ accepted
-  unfolding fault row20 row21 row22 isFramed _then_ fieldBytes field
+  unfolding fault row20 row21 row22 isFramed _then_ fieldBytes field text allDigits
   line-fine place k s =
+      let due = digitsOf (widthsOf (f .fields)) in
       let kind : value (text f) 0 1 ≡ f .kind = value-back [] (wide 1 (f .kind)) (wide 2 (f .sequence) ∷ f .fields) refl (record { narrow = lit≤ tt; small = k }) in
       let seq : value (text f) 1 2 ≡ f .sequence = value-back (wide 1 (f .kind) ∷ []) (wide 2 (f .sequence)) (f .fields) refl (record { narrow = lit≤ tt; small = s }) in
+      let even : due % 2 ≡ 0 = rw (← line-digits f, digits-length (frameBytes f)) (omega arith) in
+      let feed : getD (text f) due 0 ≡ lineFeed = getD-at (digits (frameBytes f)) lineFeed [] 0 due (line-digits f) in
+      let right : allDigits (text f) ≡ true = digits-right (frameBytes f) (lineFeed ∷ []) (frame-bytes f) in
       rw (eq-eqb _ _ (text-length f), eq-eqb _ _ even, eq-eqb _ _ feed, right, text-bytes f, eq-eqb _ _ (checked-sum (fieldBytes (allFields f))), eq-eqb _ _ kind, eq-eqb _ _ seq)
       (rw (row-holds {test = true} 20 place refl, row-holds {test = true} 21 place refl, row-holds {test = true} 22 place refl))

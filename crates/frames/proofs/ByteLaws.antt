@@ -1,33 +1,24 @@
--- Laws of digits and bytes, over texts of any length.
-use Prim.Native.Nat.{ℕ, zero, suc, _+_, _*_, _/_, _%_, _≤_, _<_}
-use mathlib.Core.Path.{_≡_, refl, ap, _∙_}
+-- Laws of digits, bytes and the numbers that they make, over texts of any length.
+use Prim.Native.Nat.{ℕ, zero, suc, _+_, _*_, _/_, _%_, _^_, _≤_, _<_}
+use mathlib.Core.Path.{_≡_, refl, sym, ap, _∙_}
 use mathlib.Core.List.{List, [], _∷_, _++_}
 use mathlib.Core.Bool.{Bool, true, false, _&&_}
-use native.Mathlib.Nat.{mod-lt}
+use mathlib.Core.Logic.{_⊎_, inr, ⊎-elim}
+use native.Mathlib.Nat.{pow-suc, pow-zero, mul-assoc, mod-lt, div-lt-iff-lt-mul, div-add-mod', lt-of-lt-of-le, pow-le-pow-right}
 use native.Mathlib.Numerals.{add-one}
 use native.Mathlib.Omega.{arith}
-use borrow.Author.Tests.{lt-ltb, ltb-true, ltb-false, le-leb, lt-leb}
-use lib.Dec.{lit<, ltb}
-use lib.ListN.{length, drop, getD, length-append}
-use lib.Seq.{drop-cons}
-use Rattle.frames.specs.Bytes.{digit, worth, isDigit, digits, byte, bytes, allDigits, field}
+use borrow.Author.Tests.{lt-ltb, ltb-true, ltb-false, eqb-true}
+use lib.Dec.{lit<, ltb, eqb}
+use lib.ListN.{length, take, drop, getD, length-append, length-drop}
+use lib.Seq.{drop-cons, take-suc, take-all, take-take, getD-drop}
+use Rattle.lists.specs.Scan.{row, clean}
+use Rattle.lists.proofs.ScanLaws.{row-passed, clean-each}
+use Rattle.frames.specs.Bytes.{digit, worth, isDigit, areDigits, digits, byte, bytes, allDigits, field, number, sum}
 
--- ---- a digit is worth what it was written for
+-- ---- a digit is worth what it was written for: each of the sixteen
 worth-digit : (n : ℕ) → n < 16 → worth (digit n) ≡ n
-unfolding worth digit
-worth-digit n h = go (ltb n 10) refl
-  where
-    go : (b : Bool) → ltb n 10 ≡ b → worth (digit n) ≡ n
-    go true e =
-        let l = ltb-true n 10 e in
-        rw (e, le-leb 48 (48 + n) (omega arith), le-leb (48 + n) 57 (omega arith)) (omega arith)
-    go false e =
-        let l = ltb-false n 10 e in
-        rw (e, le-leb 48 (55 + n) (omega arith), lt-leb (55 + n) 57 (omega arith), le-leb 65 (55 + n) (omega arith), le-leb (55 + n) 70 (omega arith)) (omega arith)
-
-byte-back : (b : ℕ) → b < 256 → byte (digit (b / 16)) (digit (b % 16)) ≡ b
-unfolding byte
-byte-back b h = rw (worth-digit (b / 16) (omega arith), worth-digit (b % 16) (omega arith)) (omega arith)
+unfolding worth digit clean row
+worth-digit n h = eqb-true _ _ (row-passed _ 0 0 (clean-each (λ (k : ℕ). row (eqb (worth (digit k)) k) 1 0) 16 refl n h))
 
 digit-right : (n : ℕ) → n < 16 → isDigit (digit n) ≡ true
 digit-right n h = rw (worth-digit n h) (lt-ltb n 16 h)
@@ -48,9 +39,12 @@ field-bytes (suc w) v = bytes-join (field w _) (_ ∷ []) (field-bytes w _) (mod
 
 -- ---- what is read from the digits of bytes, and what follows them
 pub bytes-back : (bs t : List ℕ) → Bytes bs → bytes (digits bs ++ t) ≡ bs ++ bytes t
-unfolding bytes digits
+unfolding bytes digits byte
 bytes-back [] t p = refl
-bytes-back (b ∷ bs) t p = rw (byte-back b (p .0), bytes-back bs t (p .1))
+bytes-back (b ∷ bs) t p =
+    let h = p .0 in
+    let e : b / 16 % 16 * 16 + b % 16 % 16 ≡ b = omega arith in
+    rw (worth-digit (b / 16) (omega arith), worth-digit (b % 16) (omega arith), e, bytes-back bs t (p .1))
 
 pub digits-right : (bs t : List ℕ) → Bytes bs → allDigits (digits bs ++ t) ≡ allDigits t
 unfolding allDigits digits
@@ -72,30 +66,14 @@ digits-length (b ∷ bs) = let e = digits-length bs in omega arith
 pub field-length : (w v : ℕ) → length (field w v) ≡ w
 unfolding field
 field-length zero v = refl
-field-length (suc w) v = length-append (field w _) (_ ∷ []) ∙ ap (λ (n : ℕ). n + 1) (field-length w _) ∙ add-one w
+field-length (suc w) v = rw (length-append, field-length w (v / 256), add-one)
 
 -- ---- a text two characters at a time
-module _ (s : List ℕ) (k : ℕ) (h : 2 * k + 1 < length s) where
-  pair : drop (2 * k) s ≡ getD s (2 * k) 0 ∷ getD s (2 * k + 1) 0 ∷ drop (2 * (k + 1)) s
-  pair =
-      let e : 2 * (k + 1) ≡ suc (suc (2 * k)) = omega arith in
-      let h0 : 2 * k < length s = omega arith in
-      let h1 : suc (2 * k) < length s = omega arith in
-      rw (e, add-one, drop-cons s (2 * k) 0 h0, drop-cons s (suc (2 * k)) 0 h1)
-
-  pub bytes-pair : bytes (drop (2 * k) s) ≡ byte (getD s (2 * k) 0) (getD s (2 * k + 1) 0) ∷ bytes (drop (2 * (k + 1)) s)
-  unfolding bytes
-  bytes-pair = rw pair
-
-  pub digits-pair : allDigits (drop (2 * k) s) ≡ (isDigit (getD s (2 * k) 0) && isDigit (getD s (2 * k + 1) 0) && allDigits (drop (2 * (k + 1)) s))
-  unfolding allDigits
-  digits-pair = rw pair
-
-pub bytes-none : (l : List ℕ) → length l ≤ 1 → bytes l ≡ []
-unfolding bytes
-bytes-none [] h = refl
-bytes-none (a ∷ []) h = refl
-bytes-none (a ∷ b ∷ l) h = absurd (omega arith)
+pub digits-pair : (s : List ℕ) (k : ℕ) → 2 * k + 1 < length s → allDigits (drop (2 * k) s) ≡ (areDigits s k && allDigits (drop (2 * (k + 1)) s))
+unfolding allDigits
+digits-pair s k h =
+    let e : 2 * (k + 1) ≡ suc (2 * k + 1) = omega arith in
+    rw (e, drop-cons s (2 * k) 0 (omega arith), ← add-one (2 * k), drop-cons s (2 * k + 1) 0 h)
 
 pub digits-none : (l : List ℕ) → length l ≤ 1 → allDigits l ≡ true
 unfolding allDigits
@@ -126,11 +104,72 @@ bytes-small (a ∷ []) k = lit< tt
 bytes-small (a ∷ b ∷ s) zero = omega arith
 bytes-small (a ∷ b ∷ s) (suc k) = bytes-small s k
 
--- ---- tests joined
-pub and-true : (a : Bool) → (a && true) ≡ a
-and-true true = refl
-and-true false = refl
+-- ---- numbers, by their last byte
+number-last : (bs : List ℕ) (b : ℕ) → number (bs ++ (b ∷ [])) ≡ number bs * 256 + b
+unfolding number
+number-last [] b = omega (arith, pow-zero 256)
+number-last (x ∷ bs) b =
+    let e = number-last bs b in
+    let n : length (bs ++ (b ∷ [])) ≡ suc (length bs) = length-append bs (b ∷ []) ∙ add-one (length bs) in
+    rw (n, pow-suc, ← mul-assoc) (omega arith)
 
-pub and-more : (a b c d : Bool) → (a && b && c && d) ≡ (a && (b && c && d))
-and-more true b c d = refl
-and-more false b c d = refl
+-- one byte more of a field
+pub number-more : (bs : List ℕ) (at k : ℕ) → at + k < length bs
+    → number (take (k + 1) (drop at bs)) ≡ number (take k (drop at bs)) * 256 + getD bs (at + k) 0
+number-more bs at k h =
+    let l : k < length (drop at bs) = rw length-drop (omega arith) in
+    rw (add-one, take-suc (drop at bs) k 0 l, number-last, getD-drop)
+
+-- which fits eight bytes where it is at most the eighth
+pub number-room : (v k : ℕ) → v < 256 ^ k → k < 8 → v < 256 ^ 7
+number-room v k h l = lt-of-lt-of-le h (pow-le-pow-right {n = 256} (lit< tt) {i = k} {j = 7} (omega arith))
+
+pub number-grows : (v b k : ℕ) → v < 256 ^ k → b < 256 → v * 256 + b < 256 ^ (k + 1)
+number-grows v b k h l = rw (add-one, pow-suc) (omega arith)
+
+-- as many bytes as there are
+pub number-ends : (bs : List ℕ) (at k w : ℕ) → k ≤ w → (k ≡ w) ⊎ (length bs ≤ at + k) → number (take k (drop at bs)) ≡ number (take w (drop at bs))
+number-ends bs at k w h e =
+    ⊎-elim (λ p. ap (λ (n : ℕ). number (take n (drop at bs))) p) (λ p. ap number (all k p ∙ sym (all w (omega (arith, p))))) e
+  where
+    all : (n : ℕ) → length bs ≤ at + n → take n (drop at bs) ≡ drop at bs
+    all n p = take-all n (drop at bs) (rw length-drop (omega arith))
+
+-- a part that stands within the first n places
+pub part-within : (at w n : ℕ) (l : List ℕ) → at + w ≤ n → take w (drop at (take n l)) ≡ take w (drop at l)
+part-within zero w n l h = take-take w n l (omega arith)
+part-within (suc at) w zero l h = absurd (omega arith)
+part-within (suc at) w (suc n) [] h = refl
+part-within (suc at) w (suc n) (x ∷ l) h = part-within at w n l (omega arith)
+
+-- the number of k bytes that are read
+pub number-small : (s : List ℕ) (at k : ℕ) → number (take k (drop at (bytes s))) < 256 ^ k
+unfolding number
+number-small s at zero = lit< tt
+number-small s at (suc k) = rw (← add-one k) (go (number-small s at k) (ltb (at + k) (length (bytes s))) refl)
+  where
+    go : number (take k (drop at (bytes s))) < 256 ^ k → (b : Bool) → ltb (at + k) (length (bytes s)) ≡ b → number (take (k + 1) (drop at (bytes s))) < 256 ^ (k + 1)
+    go h true e = rw (number-more (bytes s) at k (ltb-true _ _ e)) (number-grows _ _ _ h (bytes-small s (at + k)))
+    go h false e =
+        rw (← number-ends (bytes s) at k (k + 1) (omega arith) (inr (ltb-false _ _ e)))
+        (lt-of-lt-of-le h (pow-le-pow-right {n = 256} (lit< tt) {i = k} {j = k + 1} (omega arith)))
+
+-- a value that fits its field is the field's number
+pub number-back : (w v : ℕ) → v < 256 ^ w → number (field w v) ≡ v
+unfolding field number
+number-back zero v h = let k : v < 1 = rw pow-zero at h in omega arith
+number-back (suc w) v h =
+    let k : v < 256 ^ w * 256 = rw pow-suc at h in
+    number-last (field w (v / 256)) (v % 256)
+    ∙ rw (number-back w (v / 256) (div-lt-iff-lt-mul {k = 256} {x = v} {y = 256 ^ w} (lit< tt) .1 k)) (div-add-mod' v 256)
+
+-- ---- sums
+pub sum-join : (a b : List ℕ) → sum (a ++ b) ≡ sum a + sum b
+unfolding sum
+sum-join [] b = omega arith
+sum-join (x ∷ a) b = let e = sum-join a b in omega arith
+
+-- the sum so far, with one byte more in it
+pub sum-more : (a b : ℕ) (l : List ℕ) → (a % 256 + b + sum l) % 256 ≡ (a + sum (b ∷ l)) % 256
+unfolding sum
+sum-more a b l = omega arith

@@ -9,8 +9,7 @@ use lib.ListN.{length, take, length-append}
 use Rattle.frames.specs.Bytes.{digits, bytes, field, sum, check}
 use Rattle.frames.specs.Frames.{Field, Frame, allFields, fieldBytes, checked, frameBytes, lineFeed, text, widthsOf, digitsOf, byteOf}
 use Rattle.frames.specs.Building.{room, holding, withFields, begun, sealed}
-use Rattle.frames.proofs.ByteLaws.{Bytes, bytes-join, field-bytes, bytes-back, digits-join, digits-length, field-length}
-use Rattle.frames.proofs.NumberLaws.{sum-join}
+use Rattle.frames.proofs.ByteLaws.{Bytes, bytes-join, field-bytes, bytes-back, digits-join, digits-length, field-length, sum-join}
 use Rattle.frames.proofs.BuildLaws.{written-holding, appended-holding}
 
 -- ---- the bytes of fields
@@ -38,13 +37,7 @@ fields-bytes (f ∷ fs) = bytes-join (field (f .width) (f .value)) (fieldBytes f
 pub fields-join : (a b : List Field) → fieldBytes (a ++ b) ≡ fieldBytes a ++ fieldBytes b
 unfolding fieldBytes
 fields-join [] b = refl
-fields-join (f ∷ a) b =
-    ap (λ (l : List ℕ). field (f .width) (f .value) ++ l) (fields-join a b) ∙ sym (append-assoc (field (f .width) (f .value)) (fieldBytes a) (fieldBytes b))
-
--- ---- the check byte
-checked-bytes : (bs : List ℕ) → Bytes bs → Bytes (checked bs)
-unfolding checked check
-checked-bytes bs p = bytes-join bs (check bs ∷ []) p (mod-lt (256 - sum bs % 256) (lit< tt), tt)
+fields-join (f ∷ a) b = rw (fields-join a b, append-assoc)
 
 -- "All frame bytes sum to 0 modulo 256."
 pub checked-sum : (bs : List ℕ) → sum (checked bs) % 256 ≡ 0
@@ -59,27 +52,22 @@ fields-holding t (f ∷ fs) h =
     let u = digits (field (f .width) (f .value)) in
     let v = digits (fieldBytes fs) in
     let both : digits (fieldBytes (f ∷ fs)) ≡ u ++ v = digits-join (field (f .width) (f .value)) (fieldBytes fs) in
-    let n : length (digits (fieldBytes (f ∷ fs))) ≡ length u + length v = ap length both ∙ length-append u v in
+    let n = simp (both, length-append) at h in
     let m = length-append t u in
-    rw (appended-holding t u (omega arith))
-    (fields-holding (t ++ u) fs (omega arith) ∙ ap holding (append-assoc t u v ∙ ap (λ (l : List ℕ). t ++ l) (sym both)))
-
-ending-length : (b : ℕ) → length (digits (b ∷ []) ++ (lineFeed ∷ [])) ≡ 3
-unfolding digits
-ending-length b = refl
+    rw (both, appended-holding t u (omega arith), fields-holding (t ++ u) fs (omega arith), append-assoc)
 
 sealed-holding : (bs : List ℕ) → Bytes bs → length (digits bs) + 3 ≤ room → sealed (holding (digits bs)) ≡ holding (digits (checked bs) ++ (lineFeed ∷ []))
-unfolding sealed checked bytes
+unfolding sealed checked bytes digits
 sealed-holding bs p h =
     let u = digits (check bs ∷ []) ++ (lineFeed ∷ []) in
     let back : bytes (digits bs) ≡ bs = ap bytes (sym (append-nil (digits bs))) ∙ bytes-back bs [] p ∙ append-nil bs in
-    let fits : length (digits bs) + length u ≤ room = omega (arith, ending-length (check bs)) in
-    rw (written-holding, back, appended-holding (digits bs) u fits, digits-join bs (check bs ∷ []), append-assoc)
+    rw (written-holding, back, appended-holding (digits bs) u h, digits-join bs (check bs ∷ []), append-assoc)
 
 -- ---- a frame's line
 module _ (f : Frame) where
   pub frame-bytes : Bytes (frameBytes f)
-  frame-bytes = checked-bytes (fieldBytes (allFields f)) (fields-bytes (allFields f))
+  unfolding checked check
+  frame-bytes = bytes-join (fieldBytes (allFields f)) _ (fields-bytes (allFields f)) (mod-lt _ (lit< tt), tt)
 
   pub line-digits : length (digits (frameBytes f)) ≡ digitsOf (widthsOf (f .fields))
   unfolding checked fieldBytes field

@@ -1,10 +1,10 @@
 -- Laws of a list laid over another, one place at a time from either end.
-use Prim.Native.Nat.{ℕ, suc, _+_, _≤_, _<_}
+use Prim.Native.Nat.{ℕ, suc, _+_, _<_}
 use mathlib.Core.Path.{_≡_, _∙_}
 use mathlib.Core.List.{List, [], _∷_, _++_, append-assoc, append-nil}
 use native.Mathlib.Nat.{add-zero}
 use native.Mathlib.Omega.{arith}
-use lib.ListN.{length, take, drop, set, getD, length-append, length-drop, length-set, take-append-drop}
+use lib.ListN.{length, take, drop, set, getD, length-append, length-set, take-append-drop}
 use lib.Seq.{length-take-le, drop-cons, set-at, take-set-le, drop-set-lt, getD-set-same, append-snoc, take-append-seam, drop-append-add, drop-drop}
 use Rattle.frames.specs.Building.{laid}
 
@@ -36,11 +36,6 @@ module _ (l : List ℕ) (at : ℕ) where
           let k = at + length t in
           let m : k < length (set l k d) = rw length-set h in
           rw (spread, take-set-le at l k d (omega arith), drop-cons (set l k d) k 0 m, getD-set-same l k d 0 h, drop-set-lt (suc k) l k d (omega arith))
-
-  pub laid-length : (t : List ℕ) → at + length t ≤ length l → length (laid l at t) ≡ length l
-  unfolding laid
-  laid-length t h =
-      rw (length-append (take at l ++ t) (drop (at + length t) l), length-append (take at l) t, length-take-le at l (omega arith), length-drop) (omega arith)
 
 -- a text whose first places are written, and the next part of it
 pub laid-next : (done l t : List ℕ) → laid (done ++ drop (length done) l) (length done) t ≡ (done ++ t) ++ drop (length (done ++ t)) l

@@ -1,6 +1,5 @@
 pub mod PatternLaws
 pub mod ByteLaws
-pub mod NumberLaws
 pub mod LaidLaws
 pub mod BuildLaws
 pub mod FrameLaws

@@ -1,11 +1,11 @@
 -- Patterns and the values that they are of.
-use Prim.Native.Nat.{ℕ, _*_, _/_, _%_, _^_, _<_}
-use mathlib.Core.Path.{_≡_, refl, sym, _∙_}
+use Prim.Native.Nat.{ℕ, _*_, _^_, _<_}
+use mathlib.Core.Path.{_≡_, refl}
 use mathlib.Core.Bool.{Bool, true, false, not, Bool·beq}
-use borrow.Author.Tests.{eq-eqb, ne-eqb}
+use borrow.Author.Tests.{eq-eqb}
 use lib.Dec.{T}
-use lib.Ieee.{Float, nan, inf, fin, binary64, div, eq, ne, isNan, fits, nanBits, ofBits, toBits, up, down}
-use lib.Ieee.Bits.{nanBits-is, ofBits-toBits, toBits-ofBits, toBits-lt}
+use lib.Ieee.{Float, nan, inf, fin, binary64, div, eq, ne, isNan, fits, ofBits, toBits, up, down}
+use lib.Ieee.Bits.{ofBits-toBits, toBits-ofBits, toBits-lt}
 
 -- ---- the round trip: a pattern takes 8 bytes, a value comes back, and so does every pattern but a NaN's
 pub pattern-fits : (x : Float) → T (fits binary64 x) → toBits binary64 x < 256 ^ 8
@@ -38,17 +38,3 @@ unfolding ne eq isNan
 ne-self nan = refl
 ne-self (inf s) = simp same-sign
 ne-self (fin s m e) = simp (same-sign, eq-eqb (m * up e * down e) (m * up e * down e) refl)
-
--- ---- a pattern is a NaN's where its exponent is all ones and its fraction is not 0
-module _ (p : ℕ) where
-  pub nan-read : p % 9223372036854775808 / 4503599627370496 ≡ 2047 → (p % 4503599627370496 ≡ 0 → ⊥) → ofBits binary64 p ≡ nan
-  unfolding nanBits
-  nan-read e t = only-nan (ofBits binary64 p) (sym (nanBits-is binary64 p) ∙ rw (eq-eqb _ _ e, ne-eqb _ _ t))
-
-  pub no-nan-exponent : (p % 9223372036854775808 / 4503599627370496 ≡ 2047 → ⊥) → T (not (nanBits binary64 p))
-  unfolding nanBits
-  no-nan-exponent e = rw (ne-eqb _ _ e) tt
-
-  pub no-nan-fraction : p % 9223372036854775808 / 4503599627370496 ≡ 2047 → p % 4503599627370496 ≡ 0 → T (not (nanBits binary64 p))
-  unfolding nanBits
-  no-nan-fraction e t = rw (eq-eqb _ _ e, eq-eqb _ _ t) tt

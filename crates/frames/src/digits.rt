@@ -1,8 +1,8 @@
 // Upper-case hexadecimal, two digits for each byte.
 ghost use mathlib.Core.Path.{_≡_};
-ghost use Prim.Native.Nat.{_+_, _*_, _%_, _<_, _≤_};
+ghost use Prim.Native.Nat.{_+_, _*_, _<_, _≤_};
 ghost use lib.ListN.{length, take, getD};
-ghost use Rattle.frames.specs.Bytes.{digit, worth, bytes};
+ghost use Rattle.frames.specs.Bytes.{digit, worth, bytes, areDigits};
 ghost use Rattle.frames.specs.Reading.{tallied};
 
 pub(crate) fn digit(n: u8) -> u8
@@ -25,19 +25,22 @@ fn worth(d: u8) -> u8
     16
 }
 
-// The byte of two digits, by what they are worth; what is no digit counts as 0.
-fn byte(high: u8, low: u8) -> u64
-    ensures { λ r. ⌜ r ≡ high % 16 * 16 + low % 16 ⌝ }
-{
-    (high as u64) % 16 * 16 + (low as u64) % 16
+// The byte of two characters, where what is no digit counts as 0, and whether both are digits.
+pub(crate) struct Pair {
+    pub byte: u64,
+    pub right: bool,
 }
 
-// Byte k of a text that is long enough.
-pub(crate) fn byte_at(text: &[u8], k: usize) -> u64
+// Pair k of a text that is long enough.
+pub(crate) fn pair_at(text: &[u8], k: usize) -> Pair
     requires { ⌜ 2 * k + 1 < length (now text) ⌝ }
-    ensures { λ r. ⌜ r ≡ getD (bytes (now (text .entry))) k 0 ⌝ }
+    ensures { λ r. ⌜ (r .byte ≡ getD (bytes (now (text .entry))) k 0) × (r .byte < 256) × (r .right ≡ areDigits (now (text .entry)) k) ⌝ }
 {
-    byte(worth(text[2 * k]), worth(text[2 * k + 1]))
+    let high = worth(text[2 * k]);
+    let low = worth(text[2 * k + 1]);
+    let byte = (high as u64) % 16 * 16 + (low as u64) % 16;
+    let right = (high < 16) & (low < 16);
+    Pair { byte, right }
 }
 
 // The 36 bytes of the longest frame. Their number is fixed, so that the compiler takes many at a time.
@@ -47,7 +50,7 @@ pub(crate) fn frame(text: &[u8]) -> [u8; 36]
 {
     let mut out = [0u8; 36];
     for k in 0..36 {
-        out[k] = byte_at(text, k) as u8;
+        out[k] = pair_at(text, k).byte as u8;
     }
     out
 }
@@ -66,10 +69,9 @@ pub(crate) fn tallied(text: &[u8]) -> Tally
     let mut sum: u64 = 0;
     let mut right = true;
     for k in 0..n {
-        let high = worth(text[2 * k]);
-        let low = worth(text[2 * k + 1]);
-        right = right & (high < 16) & (low < 16);
-        sum = sum % 256 + byte(high, low);
+        let pair = pair_at(text, k);
+        right = right & pair.right;
+        sum = sum % 256 + pair.byte;
     }
     Tally {
         sum: sum % 256,

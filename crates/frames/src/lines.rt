@@ -25,7 +25,7 @@ impl Line {
         blank.append(1, kind as u64).append(2, sequence)
     }
 
-    // The lowest `width` bytes of the value, written from the last to the first, so that each is a remainder.
+    // The lowest `width` bytes of the value, written from the last digit to the first, so that each is a remainder.
     pub fn append(self, width: usize, value: u64) -> Line
         ensures { λ r. ⌜ r ≡ appended self (digits (field width value)) ⌝ }
     {
@@ -36,19 +36,16 @@ impl Line {
         if (ROOM - at) / 2 < width {
             return self;
         }
-        let mut line = self;
+        let mut bytes = self.bytes;
         let mut rest = value;
-        let mut left = width;
+        let mut left = 2 * width;
+        let len = at + left;
         while 0 < left {
             left -= 1;
-            let byte = (rest % 256) as u8;
-            let place = at + 2 * left;
-            line.bytes[place + 1] = digits::digit(byte % 16);
-            line.bytes[place] = digits::digit(byte / 16);
-            rest = rest / 256;
+            bytes[at + left] = digits::digit((rest % 16) as u8);
+            rest = rest / 16;
         }
-        line.len = at + 2 * width;
-        line
+        Line { bytes, len }
     }
 
     // The check byte and the line feed.
@@ -80,10 +77,9 @@ pub fn put(text: &mut [u8], at: usize, line: Line) -> usize
     if text.len() - n < at {
         return at;
     }
-    let mut k: usize = 0;
-    while k < n {
-        text[at + k] = line.bytes[k];
-        k += 1;
+    let bytes = line.bytes;
+    for k in 0..n {
+        text[at + k] = bytes[k];
     }
     at + n
 }

@@ -24,7 +24,7 @@ pub fn value(line: &[u8], at: usize, width: usize) -> u64
     let mut v: u64 = 0;
     let mut k: usize = 0;
     while k < count {
-        v = v * 256 + digits::byte_at(line, at + k);
+        v = v * 256 + digits::pair_at(line, at + k).byte;
         k += 1;
     }
     v

@@ -7,11 +7,11 @@ use libc::STDOUT_FILENO;
 use lists::rows::Answer;
 ghost use mathlib.Core.Path.{_≡_};
 ghost use Rattle.forcelog.specs.Printed.{ending};
-ghost use Rattle.forcelog.specs.Kept.{Kept};
+ghost use Rattle.forcelog.specs.Savable.{Savable};
 
 // The save at the end: it is never refused, so the room is full.
 fn save_text(log: Log) -> [u8; 289]
-    requires { ⌜ Kept log ⌝ }
+    requires { ⌜ Savable log ⌝ }
     ensures { λ r. ⌜ r ≡ ending log ⌝ }
 {
     let mut text = [0u8; 289];

@@ -1,4 +1,4 @@
-use mathlib.Core.Path.{ap, _∙_}
+use mathlib.Core.Path.{refl, ap, _∙_}
 use lib.Ieee.{round, ofBits}
 use Rattle.lists.specs.Table.{table}
 use Rattle.lists.specs.Numbers.{decimal}
@@ -6,7 +6,6 @@ use Rattle.surge.specs.Lent.{After}
 use Rattle.forcelog.specs.MeshT.{T, T-parameters}
 use Rattle.forcelog.specs.Log.{coldLog}
 use Rattle.forcelog.proofs.MeshLaws.{T-opens}
-use borrow.Author.Needs.{needs}
 use Rattle.forcelog.proofs.cold.Statement.{statement}
 use Rattle.forcelog.proofs.cold.Tie as tie
 
@@ -17,7 +16,4 @@ returns c =
     ap (λ (a : After). record { lines = 0; clock = a .reply .clock; state = a .state }) (o .open .ensures ∙ T-opens)
 
 pub cold-spec : {M : Type 1} → statement M
-cold-spec =
-    tie.close
-    (tie.spec (λ c. search needs) (λ c. search needs) (λ c. search needs) (λ c. search needs) (λ c. search needs) (λ c. search needs)
-    (λ c κs. search needs) returns)
+cold-spec = tie.close (tie.spec (λ c. refl) (λ c. refl) (λ c. refl) (λ c. refl) (λ c. refl) (λ c. refl) (λ c κs. tt) returns)

@@ -1,3 +1,4 @@
+use mathlib.Core.Path.{refl}
 use lib.Ieee.{round, ofBits}
 use Rattle.lists.specs.Numbers.{decimal}
 use Rattle.forcelog.specs.MeshT.{T, T-parameters}
@@ -6,12 +7,8 @@ use borrow.Author.Needs.{needs}
 use Rattle.forcelog.proofs.end.Statement.{statement}
 use Rattle.forcelog.proofs.end.Tie as tie
 
-returns : tie.Need-returns
-unfolding endOf T T-parameters decimal round ofBits
-returns c = c .before .before .save .ensures
-
 pub end-spec : {M : Type 1} → statement M
+unfolding endOf T T-parameters decimal round ofBits
 end-spec =
     tie.close
-    (tie.spec (λ c. search needs) (λ c. search needs) (λ c. search needs) (λ c. search needs) (λ c. search needs) (λ c. search needs)
-    (λ c κs. search needs) (λ c. search needs) returns)
+    (tie.spec (λ c. search needs) (λ c. refl) (λ c. refl) (λ c. refl) (λ c. refl) (λ c. refl) (λ c κs. tt) (λ c. search needs) (λ c. c .before .before .save .ensures))

@@ -1,19 +1,19 @@
 use Prim.Native.Nat.{_≤_, _-_}
 use native.Mathlib.Omega.{arith}
 use borrow.Author.Needs.{needs}
-use Rattle.forcelog.specs.Kept.{Kept}
-use Rattle.forcelog.proofs.KeptLaws.{cold-kept, cold-lines, taken-on}
+use Rattle.forcelog.specs.Savable.{Savable}
+use Rattle.forcelog.proofs.SavableLaws.{cold-savable, cold-lines, taken-on}
 use Rattle.printing.proofs.main.Statement.{statement}
 use Rattle.printing.proofs.main.Tie as tie
 
 abbrev Inv-loop : tie.InvT-loop
-Inv-loop log₀ log = (log .lines ≤ 65536) × Kept log
+Inv-loop log₀ log = (log .lines ≤ 65536) × Savable log
 
 abbrev μ-loop : tie.MeasureT-loop
 μ-loop log₀ log = 65536 - log .lines
 
 loop-holds : tie.Need-loop-holds Inv-loop μ-loop
-loop-holds c = rw (c .cold .ensures) (cold-lines, cold-kept)
+loop-holds c = rw (c .cold .ensures) (cold-lines, cold-savable)
 
 save-text-requires : tie.Need-save-text-requires Inv-loop μ-loop
 save-text-requires c κs = c .before .before .before .before .loop .inv .1

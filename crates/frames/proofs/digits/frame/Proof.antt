@@ -5,7 +5,7 @@ use native.Mathlib.Numerals.{add-one}
 use lib.ListN.{length, take, length-set}
 use lib.Seq.{take-suc, take-suc-set, take-all}
 use Rattle.frames.specs.Bytes.{bytes}
-use Rattle.frames.proofs.ByteLaws.{bytes-length, bytes-small}
+use Rattle.frames.proofs.ByteLaws.{bytes-length}
 use Rattle.frames.proofs.digits.frame.Statement.{statement}
 use Rattle.frames.proofs.digits.frame.Tie as tie
 
@@ -15,28 +15,18 @@ Inv-loop text out₀ k₀ out k = (k ≤ 36) × (length out ≡ 36) × (take k o
 abbrev μ-loop : tie.MeasureT-loop
 μ-loop text out₀ k₀ out k = 36 - k
 
-loop-holds : tie.Need-loop-holds Inv-loop μ-loop
-loop-holds c = (omega arith, refl, refl)
-
-cast-out : tie.Need-cast-out Inv-loop μ-loop
-cast-out c = rw (c .byte-at .ensures) (record { fits = bytes-small _ _ })
-
 loop-again : tie.Need-loop-again Inv-loop μ-loop
 loop-again c =
-    let p = c .before .before in
+    let r = c .before in
+    let p = r .before .before in
     let b = bytes (p .before .before .args .text .now) in
     let k = p .loop .k in
     let l : k < length (p .loop .out) = omega arith in
     let m : k < length b = rw bytes-length (omega arith) in
-    (omega arith, simp length-set (p .loop .inv .1), rw (add-one, take-suc-set (p .loop .out) k (c .byte-at .result) l, take-suc b k 0 m, p .loop .inv .2, c .byte-at .ensures))
-
-returns : tie.Need-returns Inv-loop μ-loop
-returns c =
-    let p = c .before in
-    let last : p .loop .k ≡ 36 = omega arith in
-    sym (take-all 36 (p .loop .out) (omega arith)) ∙ (rw last at (p .loop .inv .2))
+    (omega arith, simp length-set (p .loop .inv .1), rw (add-one, take-suc-set (p .loop .out) k (r .pair-at .result .byte) l, take-suc b k 0 m, p .loop .inv .2, r .pair-at .ensures .0))
 
 pub frame-spec : {M : Type 1} → statement M
 frame-spec =
     tie.close
-    (tie.spec Inv-loop μ-loop loop-holds (λ c κs. omega arith) cast-out (λ c. omega arith) (λ c. omega arith) (λ c. omega arith) loop-again returns)
+    (tie.spec Inv-loop μ-loop (λ c. (omega arith, refl, refl)) (λ c κs. omega arith) (λ c. omega arith) (λ c. omega arith) (λ c. omega arith) (λ c. omega arith) loop-again
+    (λ c. let last : c .before .loop .k ≡ 36 = omega arith in sym (take-all 36 (c .before .loop .out) (omega arith)) ∙ (rw last at (c .before .loop .inv .2))))

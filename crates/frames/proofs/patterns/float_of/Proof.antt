@@ -1,16 +1,17 @@
 use mathlib.Core.Logic.{⊎-elim}
 use mathlib.Core.Path.{_∙_, sym}
 use borrow.Author.Needs.{needs}
-use Rattle.frames.proofs.PatternLaws.{nan-made, nan-read, no-nan-exponent, no-nan-fraction}
+use borrow.Author.Tests.{eq-eqb, ne-eqb}
+use lib.Ieee.{binary64, nanBits}
+use lib.Ieee.Bits.{nanBits-is}
+use Rattle.frames.proofs.PatternLaws.{nan-made, only-nan}
 use Rattle.frames.proofs.patterns.float_of.Statement.{statement}
 use Rattle.frames.proofs.patterns.float_of.Tie as tie
 
-returns : tie.Need-returns
-returns c = nan-made ∙ sym (nan-read (c .before .before .args .p) (c .before .if1 .taken) (c .if2 .taken))
-
-float-from-bits-result : tie.Need-float-from-bits-result
-float-from-bits-result c =
-    ⊎-elim (λ w. no-nan-fraction (c .before .args .p) (w .0 .taken) (w .1 .left)) (λ w. no-nan-exponent (c .before .args .p) (w .left)) (c .if1 .came)
-
+-- a pattern is a NaN's where its exponent is all ones and its fraction is not 0
 pub float-of-spec : {M : Type 1} → statement M
-float-of-spec = tie.close (tie.spec returns float-from-bits-result (λ c. search needs))
+unfolding nanBits
+float-of-spec =
+    tie.close
+    (tie.spec (λ c. nan-made ∙ sym (only-nan _ (sym (nanBits-is binary64 _) ∙ rw (eq-eqb _ _ (c .before .if1 .taken), ne-eqb _ _ (c .if2 .taken)))))
+    (λ c. ⊎-elim (λ w. rw (eq-eqb _ _ (w .0 .taken), eq-eqb _ _ (w .1 .left)) tt) (λ w. rw (ne-eqb _ _ (w .left)) tt) (c .if1 .came)) (λ c. search needs))

@@ -5,12 +5,9 @@ use Rattle.frames.proofs.PatternLaws.{ne-self, only-nan}
 use Rattle.frames.proofs.patterns.pattern_of.Statement.{statement}
 use Rattle.frames.proofs.patterns.pattern_of.Tie as tie
 
-returns : tie.Need-returns
-unfolding toBits
-returns c = sym (ap (toBits binary64) (only-nan (c .before .args .x) (sym (ne-self (c .before .args .x)) ∙ c .if1 .taken)))
-
-float-to-bits-result : tie.Need-float-to-bits-result
-float-to-bits-result c = rw (← ne-self (c .before .args .x), c .if1 .left) tt
-
 pub pattern-of-spec : {M : Type 1} → statement M
-pattern-of-spec = tie.close (tie.spec returns float-to-bits-result (λ c. search needs))
+unfolding toBits
+pattern-of-spec =
+    tie.close
+    (tie.spec (λ c. sym (ap (toBits binary64) (only-nan _ (sym (ne-self (c .before .args .x)) ∙ c .if1 .taken))))
+    (λ c. rw (← ne-self (c .before .args .x), c .if1 .left) tt) (λ c. search needs))

@@ -1,4 +1,3 @@
-use borrow.Author.Needs.{needs}
 use Rattle.frames.specs.Reading.{tallied, row20, row21, row22, fault}
 use Rattle.frames.proofs.reading.fault.Statement.{statement}
 use Rattle.frames.proofs.reading.fault.Tie as tie
@@ -14,5 +13,4 @@ returns c =
 pub fault-spec : {M : Type 1} → statement M
 fault-spec =
     tie.close
-    (tie.spec (λ c κs. search needs) (λ c κs. search needs) (λ c κs. search needs) (λ c κs. search needs) (λ c κs. search needs)
-    (λ c κs. search needs) (λ c κs. search needs) (λ c κs. search needs) (λ c κs. search needs) returns)
+    (tie.spec (λ c κs. tt) (λ c κs. tt) (λ c κs. tt) (λ c κs. tt) (λ c κs. tt) (λ c κs. tt) (λ c κs. tt) (λ c κs. tt) (λ c κs. tt) returns)

@@ -7,8 +7,7 @@ use lib.ListN.{length, take, drop, drop-of-length-le}
 use lib.Seq.{take-nil}
 use Rattle.frames.specs.Bytes.{bytes, number}
 use Rattle.frames.specs.Reading.{value}
-use Rattle.frames.proofs.ByteLaws.{bytes-length, bytes-small}
-use Rattle.frames.proofs.NumberLaws.{number-room, number-grows, number-more, number-ends}
+use Rattle.frames.proofs.ByteLaws.{bytes-length, number-room, number-grows, number-more, number-ends}
 use Rattle.frames.proofs.reading.value.Statement.{statement}
 use Rattle.frames.proofs.reading.value.Tie as tie
 
@@ -24,9 +23,8 @@ within : (c : tie.Joined3 Inv-loop μ-loop)
     (c .if3 .count ≤ a .width) × (a .at + c .if3 .count ≤ length (a .line .now) / 2) × ((c .if3 .count ≡ a .width) ⊎ (length (a .line .now) / 2 ≤ a .at + c .if3 .count))
 within c = ⊎-elim (λ w. (omega arith, omega arith, inl (omega arith))) (λ w. (omega arith, omega arith, inr (omega arith))) (c .if3 .came)
 
-returns : tie.Need-returns Inv-loop μ-loop
-unfolding value
-returns c = rw (lt-leb _ _ (c .if1 .taken))
+small : (c : tie.In-loop Inv-loop μ-loop) → c .before .loop .v < 256 ^ 7
+small c = number-room _ _ (c .before .loop .inv .1) (omega (arith, within (c .before .before)))
 
 returns-2 : tie.Need-returns-2 Inv-loop μ-loop
 unfolding value number
@@ -35,38 +33,14 @@ returns-2 c =
     let h : length (bytes (a .line .now)) ≤ a .at = rw bytes-length (omega arith) in
     rw (le-leb (a .width) 8 (omega arith), drop-of-length-le (bytes (a .line .now)) h) (ap number (sym (take-nil (a .width))))
 
-loop-holds : tie.Need-loop-holds Inv-loop μ-loop
-unfolding number
-loop-holds c = (omega arith, omega arith, refl)
-
-mul-v : tie.Need-mul-v Inv-loop μ-loop
-mul-v c =
-    let p = c .before in
-    omega (arith, within (p .before), number-room (p .loop .v) (p .loop .k) (p .loop .inv .1) (omega (arith, within (p .before))))
-
-add-byte-at : tie.Need-add-byte-at Inv-loop μ-loop
-add-byte-at c = omega (arith, within (c .before .before))
-
-byte-at-requires : tie.Need-byte-at-requires Inv-loop μ-loop
-byte-at-requires c κs = omega (arith, within (c .before .before))
-
-add-v : tie.Need-add-v Inv-loop μ-loop
-add-v c =
-    let p = c .before .before in
-    let b : c .byte-at .result < 256 = rw (c .byte-at .ensures) (bytes-small _ _) in
-    omega (arith, number-room (p .loop .v) (p .loop .k) (p .loop .inv .1) (omega (arith, within (p .before))))
-
-add-k : tie.Need-add-k Inv-loop μ-loop
-add-k c = omega (arith, within (c .before .before .before))
-
 loop-again : tie.Need-loop-again Inv-loop μ-loop
 loop-again c =
-    let p = c .before .before in
+    let r = c .before in
+    let p = r .before .before in
     let a = p .before .before .before .before .before .args in
     let w = within (p .before) in
-    let b : c .byte-at .result < 256 = rw (c .byte-at .ensures) (bytes-small _ _) in
     let l : a .at + p .loop .k < length (bytes (a .line .now)) = rw bytes-length (omega arith) in
-    (omega arith, number-grows _ _ _ (p .loop .inv .1) b, rw (p .loop .inv .2, c .byte-at .ensures) (sym (number-more (bytes (a .line .now)) (a .at) (p .loop .k) l)))
+    (omega arith, number-grows _ _ _ (p .loop .inv .1) (r .pair-at .ensures .1), rw (p .loop .inv .2, r .pair-at .ensures .0) (sym (number-more (bytes (a .line .now)) (a .at) (p .loop .k) l)))
 
 returns-3 : tie.Need-returns-3 Inv-loop μ-loop
 unfolding value
@@ -79,6 +53,9 @@ returns-3 c =
     (number-ends (bytes (a .line .now)) (a .at) (p .loop .k) (a .width) (omega arith) (⊎-elim (λ e. inl (omega arith)) (λ e. inr (omega arith)) (w .2)))
 
 pub value-spec : {M : Type 1} → statement M
+unfolding value number
 value-spec =
     tie.close
-    (tie.spec Inv-loop μ-loop returns returns-2 loop-holds mul-v add-byte-at byte-at-requires add-v add-k (λ c. omega arith) loop-again returns-3)
+    (tie.spec Inv-loop μ-loop (λ c. rw (lt-leb _ _ (c .if1 .taken))) returns-2 (λ c. (omega arith, omega arith, refl)) (λ c. omega (arith, small c))
+    (λ c. omega (arith, within (c .before .before))) (λ c κs. omega (arith, within (c .before .before))) (λ c. omega (arith, small (c .before .before)))
+    (λ c. omega (arith, within (c .before .before .before .before))) (λ c. omega arith) loop-again returns-3)

@@ -1,21 +1,9 @@
-use Prim.Native.Nat.{ℕ, _≤_}
-use mathlib.Core.Path.{_≡_, ap, _∙_}
-use mathlib.Core.List.{List, [], _∷_}
 use native.Mathlib.Omega.{arith}
-use borrow.Author.Needs.{needs}
-use lib.ListN.{take, drop}
-use Rattle.frames.specs.Bytes.{bytes, number}
+use lib.Dec.{lit≤}
 use Rattle.frames.specs.Reading.{value, values}
-use Rattle.frames.proofs.NumberLaws.{part-within}
+use Rattle.frames.proofs.ByteLaws.{part-within}
 use Rattle.frames.proofs.reading.values.Statement.{statement}
 use Rattle.frames.proofs.reading.values.Tie as tie
-
-returns : tie.Need-returns
-unfolding values
-returns c =
-    let c3 = c .before in
-    let c2 = c3 .before in
-    λ i. c2 .before .value .ensures i ∷ c2 .value2 .ensures i ∷ c3 .value3 .ensures i ∷ c .value4 .ensures i ∷ []
 
 returns-2 : tie.Need-returns-2
 unfolding value values
@@ -23,18 +11,13 @@ returns-2 c =
     let c3 = c .before in
     let c2 = c3 .before in
     let c1 = c2 .before in
-    let f = c1 .before in
-    let line = f .before .before .before .args .line .now in
-    let its : (at : ℕ) → at ≤ 28 → number (take 8 (drop at (f .frame .result))) ≡ value line at 8 =
-    λ at h. ap (λ (l : List ℕ). number (take 8 (drop at l))) (f .frame .ensures) ∙ ap number (part-within at 8 36 (bytes line) (omega arith)) in
-    λ i. (c1 .field .ensures ∙ its 3 (omega arith)) i
-    ∷ (c2 .field2 .ensures ∙ its 11 (omega arith)) i
-    ∷ (c3 .field3 .ensures ∙ its 19 (omega arith)) i
-    ∷ (c .field4 .ensures ∙ its 27 (omega arith)) i
-    ∷ []
+    rw (c .field4 .ensures, c3 .field3 .ensures, c2 .field2 .ensures, c1 .field .ensures, c1 .before .frame .ensures)
+    (rw (part-within 3 8 36 _ (lit≤ tt), part-within 11 8 36 _ (lit≤ tt), part-within 19 8 36 _ (lit≤ tt), part-within 27 8 36 _ (lit≤ tt)))
 
 pub values-spec : {M : Type 1} → statement M
+unfolding values
 values-spec =
     tie.close
-    (tie.spec (λ c κs. search needs) (λ c κs. search needs) (λ c κs. search needs) (λ c κs. search needs) returns (λ c κs. search needs)
-    (λ c κs. search needs) (λ c κs. search needs) (λ c κs. search needs) (λ c κs. search needs) returns-2)
+    (tie.spec (λ c κs. tt) (λ c κs. tt) (λ c κs. tt) (λ c κs. tt)
+    (λ c. rw (c .value4 .ensures, c .before .value3 .ensures, c .before .before .value2 .ensures, c .before .before .before .value .ensures)) (λ c κs. omega arith) (λ c κs. lit≤ tt) (λ c κs. lit≤ tt) (λ c κs. lit≤ tt)
+    (λ c κs. lit≤ tt) returns-2)

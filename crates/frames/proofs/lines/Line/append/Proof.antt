@@ -1,4 +1,4 @@
-use Prim.Native.Nat.{suc, _≤_, _-_}
+use Prim.Native.Nat.{suc, _≤_, _-_, _*_}
 use mathlib.Core.Path.{_≡_, refl, sym, _∙_}
 use native.Mathlib.Omega.{arith}
 use borrow.Author.Needs.{needs}
@@ -6,50 +6,40 @@ use lib.ListN.{length, length-set}
 use Rattle.frames.specs.Bytes.{digits, field}
 use Rattle.frames.specs.Building.{room, laid}
 use Rattle.frames.proofs.LaidLaws.{laid-none}
-use Rattle.frames.proofs.BuildLaws.{field-digits, field-turn, appended-room, appended-full}
+use Rattle.frames.proofs.BuildLaws.{hex, hex-field, hex-turn, field-digits, appended-room, appended-full}
 use Rattle.frames.proofs.lines.Line.append.Statement.{statement}
 use Rattle.frames.proofs.lines.Line.append.Tie as tie
 
 abbrev Inv-loop : tie.InvT-loop
-Inv-loop width value at line₀ rest₀ left₀ line rest left =
-    (left ≤ width) × (length (line .bytes) ≡ room) × (laid (line .bytes) at (digits (field left rest)) ≡ laid (line₀ .bytes) at (digits (field width value)))
+Inv-loop width value at bytes₀ rest₀ left₀ len bytes rest left =
+    (left ≤ 2 * width) × (length bytes ≡ room) × (laid bytes at (hex left rest) ≡ laid bytes₀ at (hex (2 * width) value))
 
 abbrev μ-loop : tie.MeasureT-loop
-μ-loop width value at line₀ rest₀ left₀ line rest left = left
-
-returns : tie.Need-returns Inv-loop μ-loop
-returns c = let a = c .before .args in sym (appended-full (a .self) (digits (field (a .width) (a .value))) (rw field-digits (omega arith)))
-
-returns-2 : tie.Need-returns-2 Inv-loop μ-loop
-returns-2 c = let a = c .before .before .args in sym (appended-full (a .self) (digits (field (a .width) (a .value))) (rw field-digits (omega arith)))
-
-loop-holds : tie.Need-loop-holds Inv-loop μ-loop
-loop-holds c = (omega arith, search needs, refl)
+μ-loop width value at bytes₀ rest₀ left₀ len bytes rest left = left
 
 loop-again : tie.Need-loop-again Inv-loop μ-loop
 loop-again c =
-    let p = c .before .before .before in
-    let a = p .before .before .before .args in
+    let p = c .before .before in
+    let a = p .before .before .before .before .args in
     let e : p .loop .left ≡ suc (p .loop .left - 1) = omega arith in (
       omega arith,
       simp length-set (p .loop .inv .1),
-      rw (c .digit2 .ensures, c .before .digit .ensures)
-          (field-turn (p .loop .line .bytes) (a .self .len) (p .loop .left - 1) (p .loop .rest) (omega arith) ∙ rw (← e) (p .loop .inv .2)),
+      rw (c .digit .ensures) (hex-turn (p .loop .bytes) (a .self .len) (p .loop .left - 1) (p .loop .rest) (omega arith) ∙ rw (← e) (p .loop .inv .2)),
     )
 
 returns-3 : tie.Need-returns-3 Inv-loop μ-loop
-unfolding field digits
+unfolding hex
 returns-3 c =
     let p = c .before in
-    let a = p .before .before .before .args in
+    let a = p .before .before .before .before .args in
     let t = digits (field (a .width) (a .value)) in
     let z : p .loop .left ≡ 0 = omega arith in
-    let e : p .loop .line .bytes ≡ laid (a .self .bytes) (a .self .len) t = sym (laid-none (p .loop .line .bytes) (a .self .len)) ∙ (rw z at (p .loop .inv .2)) in
+    let e : p .loop .bytes ≡ laid (a .self .bytes) (a .self .len) t = sym (laid-none (p .loop .bytes) (a .self .len)) ∙ (rw (z, hex-field) at (p .loop .inv .2)) in
     rw (appended-room (a .self) t (rw field-digits (omega arith)), field-digits, e)
 
 pub append-spec : {M : Type 1} → statement M
 append-spec =
     tie.close
-    (tie.spec Inv-loop μ-loop returns returns-2 loop-holds (λ c. omega arith) (λ c. omega arith) (λ c. omega arith) (λ c. omega arith)
-    (λ c κs. omega arith) (λ c. omega arith) (λ c. omega arith) (λ c κs. omega arith) (λ c. omega arith) (λ c. omega arith) loop-again
-    (λ c. omega arith) (λ c. omega arith) returns-3)
+    (tie.spec Inv-loop μ-loop (λ c. sym (appended-full _ _ (rw field-digits (omega arith)))) (λ c. sym (appended-full _ _ (rw field-digits (omega arith))))
+    (λ c. omega arith) (λ c. omega arith) (λ c. (omega arith, search needs, refl)) (λ c. omega arith) (λ c. omega arith) (λ c κs. omega arith)
+    (λ c. omega arith) (λ c. omega arith) (λ c. omega arith) loop-again returns-3)

@@ -7,7 +7,7 @@ use Rattle.surge.specs.State.{windOf}
 use Rattle.forcelog.specs.declared.Log.{Log}
 use Rattle.forcelog.specs.MeshT.{T, T-parameters}
 
-pub record Kept (log : Log) : Type 0 where
+pub record Savable (log : Log) : Type 0 where
   pub rows : rows1to10 true T T-parameters (log .state) .number ≡ 0
   pub wind : row12Held (windOf (log .clock)) .number ≡ 0
   pub steps : log .clock .step ≡ log .lines

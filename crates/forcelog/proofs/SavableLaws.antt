@@ -1,7 +1,6 @@
 -- The save at the end is never refused: a cold log can be saved, and so can each log that a line was taken into.
 use Prim.Native.Nat.{ℕ, _+_, _<_, _≤_}
 use mathlib.Core.Path.{_≡_, refl, sym, ap, _∙_}
-use mathlib.Core.Bool.{true}
 use mathlib.Core.List.{List, [], append-nil}
 use native.Mathlib.Omega.{arith}
 use borrow.Author.Tests.{eq-eqb, ne-eqb}
@@ -16,9 +15,9 @@ use Rattle.surge.specs.Lent.{After}
 use Rattle.surge.specs.Open.{openAnswer, openOf}
 use Rattle.bounds.specs.State.{rows1to10}
 use Rattle.surge.specs.State.{windOf}
-use Rattle.surge.specs.Step.{Given, given, advance, stepOf}
-use Rattle.passes.specs.Settle.{Rooms, roomy}
-use Rattle.surge.proofs.KeptLaws.{WentOn, went-on, next-rows, next-wind, cold-rows, cold-wind, opened-mesh}
+use Rattle.surge.specs.Step.{given, advance}
+use Rattle.passes.specs.Settle.{roomy}
+use Rattle.surge.proofs.KeptLaws.{went-on, next-rows, next-wind, cold-rows, cold-wind, opened-mesh}
 use Rattle.saves.specs.Forcings.{takenOf}
 use Rattle.saves.specs.Save.{saveAnswer, saveOut, wrote, saveOf}
 use Rattle.saves.proofs.KeptLaws.{save-fine}
@@ -27,13 +26,13 @@ use Rattle.forcelog.specs.declared.Took.{Took}
 use Rattle.forcelog.specs.MeshT.{T, T-parameters}
 use Rattle.forcelog.specs.Log.{coldLog, rooms, stepped, takeOf, endOf}
 use Rattle.forcelog.specs.Printed.{ending}
-use Rattle.forcelog.specs.Kept.{Kept}
-use Rattle.forcelog.proofs.LogLaws.{step-accepted, took-step, counted}
+use Rattle.forcelog.specs.Savable.{Savable}
+use Rattle.forcelog.proofs.LogLaws.{took-step, counted}
 use Rattle.forcelog.proofs.MeshLaws.{T-opens}
 
-pub cold-kept : Kept coldLog
+pub cold-savable : Savable coldLog
 unfolding coldLog openOf openAnswer T
-cold-kept = record {
+cold-savable = record {
   rows = cold-rows T T-parameters (opened-mesh _ T T-parameters (ap (λ (o : After). o .reply .answer .number) T-opens));
   wind = cold-wind;
   steps = refl;
@@ -43,31 +42,18 @@ pub cold-lines : coldLog .lines ≤ 65536
 unfolding coldLog
 cold-lines = lit≤ tt
 
--- ---- an accepted step
-module _ (g : Given) (r : Rooms) (h : stepOf g r .reply .answer .number ≡ 0) where
-  its : WentOn g r
-  its = went-on g r (eq-eqb _ _ h)
-
-  pub step-rows : rows1to10 true (g .mesh) (g .p) (stepOf g r .rooms .next) .number ≡ 0
-  step-rows = rw (its .out) (next-rows g _ (its .first) (its .last))
-
-  pub step-wind : row12Held (windOf (stepOf g r .reply .clock)) .number ≡ 0
-  step-wind = rw (its .out) (next-wind g _ (its .first) (its .last))
-
-  pub step-count : stepOf g r .reply .clock .step ≡ g .clock .step + 1
-  unfolding advance
-  step-count = rw (its .out)
-
-pub take-kept : (line : List ℕ) (log : Log) → Kept log → takeOf line log .answer .number ≡ 0 → Kept (takeOf line log .log)
-unfolding stepped
-take-kept line log k h =
+-- an accepted step leaves what rows 10 and 12 pass, and one step more
+pub take-savable : (line : List ℕ) (log : Log) → Savable log → takeOf line log .answer .number ≡ 0 → Savable (takeOf line log .log)
+unfolding stepped advance
+take-savable line log k h =
     let g = given T T-parameters (log .state) (log .clock) (takenOf line (log .lines) .forcing) in
-    let ok = step-accepted line log h in
-    rw (took-step line log h)
-    (record { rows = step-rows g rooms ok; wind = step-wind g rooms ok; steps = step-count g rooms ok ∙ ap (λ (n : ℕ). n + 1) (k .steps) })
+    let took = took-step line log h in
+    let on = went-on g rooms (eq-eqb _ _ (took .0)) in
+    rw (took .1, on .out)
+    (record { rows = next-rows g _ (on .first) (on .last); wind = next-wind g _ (on .first) (on .last); steps = ap (λ (n : ℕ). n + 1) (k .steps) })
 
 -- ---- why no line is refused by 10 or 11: of such a log, while a line is left, a step passes all rows before 12 for its forcing
-pub next-may : (log : Log) → Kept log → log .lines < 65536
+pub next-may : (log : Log) → Savable log → log .lines < 65536
     → (rows1to10 (roomy rooms (N T)) T T-parameters (log .state) .number ≡ 0) × (row11 (log .clock .step) .number ≡ 0) × (row12Held (windOf (log .clock)) .number ≡ 0)
 unfolding table T row11
 next-may log k h =
@@ -75,21 +61,21 @@ next-may log k h =
     (k .rows, same-number (sym (row-holds 11 0 (rw (ne-eqb _ _ few)))) refl, k .wind)
 
 -- ---- what the program's loop goes on with: a line that is taken is counted, was not past the last, and leaves a log that can be saved
-pub taken-on : (line : List ℕ) (log : Log) (t : Took) → Kept log → t ≡ takeOf line log → t .answer .number ≡ 0
-    → (t .log .lines ≡ log .lines + 1) × (log .lines < 65536) × Kept (t .log)
+pub taken-on : (line : List ℕ) (log : Log) (t : Took) → Savable log → t ≡ takeOf line log → t .answer .number ≡ 0
+    → (t .log .lines ≡ log .lines + 1) × (log .lines < 65536) × Savable (t .log)
 taken-on line log t kept e h =
     let k : takeOf line log .answer .number ≡ 0 = ap (λ (x : Took). x .answer .number) (sym e) ∙ h in
     let n = counted line log k in
-    rw e (n .0, n .1, take-kept line log kept k)
+    rw e (n .0, n .1, take-savable line log kept k)
 
 -- ---- the save of a log that can be saved, in a room of its length, is the whole text
-module _ (log : Log) (k : Kept log) (t : List ℕ) (long : length t ≡ 289) where
+module _ (log : Log) (k : Savable log) (t : List ℕ) (long : length t ≡ 289) where
   answered : saveAnswer T T-parameters (log .state) (log .clock) t .number ≡ 0
   unfolding T
   answered = save-fine T T-parameters (log .state) (log .clock) t (k .rows) (k .wind) (rw long (lit≤ tt))
 
-  pub end-kept : endOf log t ≡ saveOut (wrote 289) (ending log)
+  pub end-saved : endOf log t ≡ saveOut (wrote 289) (ending log)
   unfolding endOf saveOf T
-  end-kept =
+  end-saved =
       let none : drop 289 t ≡ [] = ap (λ (n : ℕ). drop n t) (sym long) ∙ drop-length t in
       rw (eq-eqb _ _ answered) (rw (none, append-nil))
