@@ -19,7 +19,7 @@ use Rattle.surge.specs.State.{windOf}
 use Rattle.surge.specs.Step.{Given, given, advance, stepOf}
 use Rattle.passes.specs.Settle.{Rooms, roomy}
 use Rattle.surge.proofs.KeptLaws.{WentOn, went-on, next-rows, next-wind, cold-rows, cold-wind, opened-mesh}
-use Rattle.saves.specs.Forcings.{takenOf}
+use Rattle.forcings.specs.Forcings.{takenOf}
 use Rattle.saves.specs.Save.{saveAnswer, saveOut, wrote, saveOf}
 use Rattle.saves.proofs.KeptLaws.{save-fine}
 use Rattle.forcelog.specs.declared.Log.{Log}

@@ -7,22 +7,21 @@ use mathlib.Core.Logic.{⊎-elim}
 use native.Mathlib.Nat.{not-suc-le-zero, le-of-suc-le-suc, eq-or-lt-of-le}
 use native.Mathlib.Omega.{arith}
 use borrow.Author.Tests.{lt-ltb, ltb-true, ltb-false, eq-eqb}
-use lib.Dec.{T, ltb, eqb, lit<, lit≤}
+use lib.Dec.{ltb, eqb, lit<, lit≤}
 use lib.ListN.{length, getD}
 use lib.Seq.{take-at, drop-at}
-use lib.Ieee.{Float, nan, binary64, fits, ofBits}
+use lib.Ieee.{Float, nan}
 use Rattle.lists.specs.Scan.{accepted}
 use Rattle.lists.proofs.ScanLaws.{row-holds, then-next}
-use Rattle.frames.specs.Frames.{Frame, wide, text, widthsOf, digitsOf, byteOf, fieldAt}
+use Rattle.frames.specs.Frames.{text, digitsOf}
 use Rattle.frames.specs.Reading.{value, fault}
-use Rattle.frames.proofs.BackLaws.{line-fine, field-back}
-use Rattle.frames.proofs.PatternLaws.{pattern-fits, float-back}
+use Rattle.frames.proofs.BackLaws.{line-fine, field-back, float-field}
 use Rattle.surge.specs.declared.Clock.{Clock}
 use Rattle.bounds.specs.State.{nodeOf}
-use Rattle.saves.specs.Lines.{head, stateValues, nodeLine, end, nodeLayout, endLayout, layoutAt, due, bits}
+use Rattle.saves.specs.Lines.{head, stateValues, nodeLine, end, nodeLayout, endLayout, layoutAt, due}
 use Rattle.saves.specs.Held.{HeldClock, HeldState}
 use Rattle.saves.specs.Save.{lineOf, linesTo, saveText}
-use Rattle.saves.specs.Load.{lineAt, float, row23, lineRows, clockOf, loadedNode}
+use Rattle.saves.specs.Load.{lineAt, row23, lineRows, clockOf, loadedNode}
 use Rattle.saves.proofs.LineLaws.{line-long, lines-long}
 
 module _ (n e : ℕ) (state : List Float) (k : Clock) where
@@ -79,13 +78,6 @@ module _ (n e : ℕ) (state : List Float) (k : Clock) where
       lines-fine rest j h = rw (line-back rest j h, fault-fine j h) (then-next accepted _ refl ∙ counts-same j h)
 
 -- ---- a run whose numbers a save's fields can hold
--- a float that is field j of a frame is read back
-float-field : (f : Frame) (j : ℕ) → j < length (f .fields) → (x : Float) → fieldAt (f .fields) j ≡ wide 8 (bits x) → T (fits binary64 x)
-    → float (text f) (byteOf (widthsOf (f .fields)) j) ≡ x
-float-field f j l x q h =
-    let back = field-back f j l (rw q (record { narrow = lit≤ tt; small = pattern-fits x h })) in
-    ap (ofBits binary64) (rw q at back) ∙ float-back x h
-
 module _ (e : ℕ) (state : List Float) (k : Clock) (rest : List ℕ) where
   -- the clock that is read of a save's text is the one that was saved
   pub clock-back : (n : ℕ) → HeldClock k → clockOf n (saveText n e state k ++ rest) ≡ k

@@ -20,13 +20,14 @@ use Rattle.equations.specs.declared.Push.{Push}
 use Rattle.equations.specs.declared.Flow.{Flow}
 use Rattle.equations.specs.Elevation.{z′}
 use Rattle.equations.specs.Velocity.{flow, U′ as u′, V′ as v′}
+use Rattle.frames.specs.Reading.{float}
 use Rattle.frames.proofs.BackLaws.{value-small}
 use Rattle.mesh.specs.Lent.{N}
 use Rattle.surge.specs.Lent.{coldState, coldClock}
 use Rattle.passes.specs.Equations.{node, riseOf, rise, flowOf, flowAt, U′, V′, nextState}
 use Rattle.surge.specs.Step.{Given, seaOf, advance}
 use Rattle.saves.specs.Held.{HeldClock, HeldState}
-use Rattle.saves.specs.Load.{lineAt, float, clockOf, loadedNode, loadedState}
+use Rattle.saves.specs.Load.{lineAt, clockOf, loadedNode, loadedState}
 
 -- each value of a list is a binary64; past its end it is NaN
 abbrev AllFit : List Float → Type 0

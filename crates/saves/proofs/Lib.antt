@@ -1,4 +1,3 @@
-pub mod ForcingLaws
 pub mod LineLaws
 pub mod WriteLaws
 pub mod SaveLaws

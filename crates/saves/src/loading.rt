@@ -1,6 +1,5 @@
 // The lines of a save, read back: the rows of a load, the clock and the state that the lines hold.
-use super::float_at;
-use super::held_wind;
+use crate::clocks;
 use equations::Node;
 use frames::patterns;
 use frames::reading;
@@ -135,8 +134,8 @@ pub(crate) fn clock_of(n: usize, text: &[u8]) -> Clock
     let head = &text[from..to];
     Clock {
         step: reading::value(head, 7, 4) as u32,
-        wx: float_at(head, 11),
-        wy: float_at(head, 19),
+        wx: reading::float_at(head, 11),
+        wy: reading::float_at(head, 19),
     }
 }
 
@@ -188,7 +187,7 @@ pub(crate) fn text_rows(e: usize, h: &[f64], text: &[u8]) -> Answer
     let n = h.len();
     let read = lines(n, e, text);
     let over = rows::tested(text.len() <= 70 + 73 * n, 20, n + 2);
-    let wind = held_wind(clock_of(n, text));
+    let wind = clocks::held_wind(clock_of(n, text));
     let values = bounds(h, text);
     rows::first(read, rows::first(over, rows::first(wind, values)))
 }

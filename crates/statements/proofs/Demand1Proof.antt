@@ -14,7 +14,7 @@ use Rattle.surge.specs.Step.{Given, seaOf, refusedBefore, refusedBy13, wentOn, 
 use Rattle.passes.specs.Settle.{Rooms, roomy}
 use Rattle.saves.specs.Save.{saveOf}
 use Rattle.saves.specs.Load.{loadOf}
-use Rattle.saves.specs.Forcings.{takenOf}
+use Rattle.forcings.specs.Forcings.{takenOf}
 use Rattle.statements.specs.Demand1.{Accepts, Refuses, OpenSays, StepSays, SaveSays, LoadSays, ForcingSays}
 use Rattle.statements.specs.Demand1.{OpenKeepsDemand1, StepKeepsDemand1, SaveKeepsDemand1, LoadKeepsDemand1, ForcingKeepsDemand1}
 use Rattle.surge.proofs.NumberLaws.{before-13, only-13}

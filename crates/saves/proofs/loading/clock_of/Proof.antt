@@ -2,8 +2,8 @@ use mathlib.Core.Path.{ap, _∙_}
 use mathlib.Core.List.{List}
 use Prim.Native.Nat.{ℕ}
 use native.Mathlib.Omega.{arith}
-use Rattle.frames.specs.Reading.{value}
-use Rattle.saves.specs.Load.{float, clockOf}
+use Rattle.frames.specs.Reading.{value, float}
+use Rattle.saves.specs.Load.{clockOf}
 use Rattle.saves.proofs.SpanLaws.{step-small}
 use borrow.Author.Needs.{needs}
 use Rattle.saves.proofs.loading.clock_of.Statement.{statement}

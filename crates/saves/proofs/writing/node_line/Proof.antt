@@ -8,7 +8,8 @@ use lib.ListN.{getD}
 use lib.Ieee.{nan}
 use Rattle.frames.specs.Building.{withFields}
 use Rattle.frames.proofs.FrameLaws.{built}
-use Rattle.saves.specs.Lines.{nodeLine, bits}
+use Rattle.frames.specs.Frames.{bits}
+use Rattle.saves.specs.Lines.{nodeLine}
 use borrow.Author.Needs.{needs}
 use Rattle.saves.proofs.writing.node_line.Statement.{statement}
 use Rattle.saves.proofs.writing.node_line.Tie as tie

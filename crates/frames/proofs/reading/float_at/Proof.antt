@@ -1,8 +1,8 @@
 use mathlib.Core.Path.{ap, _∙_}
 use lib.Ieee.{binary64, ofBits}
 use borrow.Author.Needs.{needs}
-use Rattle.saves.proofs.float_at.Statement.{statement}
-use Rattle.saves.proofs.float_at.Tie as tie
+use Rattle.frames.proofs.reading.float_at.Statement.{statement}
+use Rattle.frames.proofs.reading.float_at.Tie as tie
 
 returns : tie.Need-returns
 returns c = c .float-of .ensures ∙ ap (ofBits binary64) (c .before .value .ensures)
