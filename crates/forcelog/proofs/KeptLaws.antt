@@ -21,7 +21,7 @@ use Rattle.passes.specs.Settle.{Rooms, roomy}
 use Rattle.surge.proofs.KeptLaws.{WentOn, went-on, next-rows, next-wind, cold-rows, cold-wind, opened-mesh}
 use Rattle.forcings.specs.Forcings.{takenOf}
 use Rattle.saves.specs.Save.{saveAnswer, saveOut, wrote, saveOf}
-use Rattle.saves.proofs.KeptLaws.{save-fine}
+use Rattle.saves.proofs.SaveLaws.{save-fine}
 use Rattle.forcelog.specs.declared.Log.{Log}
 use Rattle.forcelog.specs.declared.Took.{Took}
 use Rattle.forcelog.specs.MeshT.{T, T-parameters}

@@ -19,7 +19,7 @@ use Rattle.statements.specs.Demand1.{Accepts, Refuses, OpenSays, StepSay
 use Rattle.statements.specs.Demand1.{OpenKeepsDemand1, StepKeepsDemand1, SaveKeepsDemand1, LoadKeepsDemand1, ForcingKeepsDemand1}
 use Rattle.surge.proofs.NumberLaws.{before-13, only-13}
 use Rattle.surge.proofs.KeptLaws.{early, late, step-cases}
-use Rattle.saves.proofs.KeptLaws.{load-cases}
+use Rattle.saves.proofs.LoadLaws.{load-cases}
 
 open-says : (m : Mesh) (p : Parameters) (state : List Float) → OpenSays m p state (openOf m p state)
 unfolding openOf

@@ -5,7 +5,7 @@ use native.Mathlib.Omega.{arith}
 use lib.Dec.{eqb}
 use Rattle.lists.specs.Scan.{row}
 use Rattle.saves.specs.Load.{row23}
-use Rattle.saves.proofs.SpanLaws.{count-node, count-last}
+use Rattle.saves.proofs.LineLaws.{count-node, count-last}
 use borrow.Author.Needs.{needs}
 use Rattle.saves.proofs.loading.counts.Statement.{statement}
 use Rattle.saves.proofs.loading.counts.Tie as tie

@@ -1,6 +1,5 @@
 use mathlib.Core.Path.{sym}
-use Rattle.saves.proofs.LineLaws.{start-none}
-use Rattle.saves.proofs.SpanLaws.{start-is}
+use Rattle.saves.proofs.LineLaws.{start-none, start-is}
 use borrow.Author.Needs.{needs}
 use Rattle.saves.proofs.loading.start.Statement.{statement}
 use Rattle.saves.proofs.loading.start.Tie as tie

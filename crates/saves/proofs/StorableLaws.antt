@@ -1,6 +1,6 @@
 -- What is loaded of any text can be saved again, and so can a cold start and what a step gives.
 use Prim.Native.Nat.{ℕ, zero, suc, _+_, _*_}
-use mathlib.Core.Path.{_≡_, refl, ap, _∙_}
+use mathlib.Core.Path.{_≡_, refl, subst}
 use mathlib.Core.Bool.{Bool, true, false, cond}
 use mathlib.Core.List.{List, [], _∷_, _++_}
 use native.Mathlib.Omega.{arith}
@@ -14,19 +14,18 @@ use Rattle.lists.specs.Table.{table}
 use Rattle.lists.specs.Runs.{room}
 use Rattle.lists.specs.Scan.{plus0}
 use Rattle.lists.proofs.TableLaws.{length-table}
-use Rattle.lists.proofs.RunLaws.{room-length}
 use Rattle.equations.specs.declared.Parameters.{Parameters}
 use Rattle.equations.specs.declared.Push.{Push}
 use Rattle.equations.specs.declared.Flow.{Flow}
 use Rattle.equations.specs.Elevation.{z′}
 use Rattle.equations.specs.Velocity.{flow, U′ as u′, V′ as v′}
-use Rattle.frames.specs.Reading.{float}
 use Rattle.frames.proofs.BackLaws.{value-small}
 use Rattle.mesh.specs.Lent.{N}
 use Rattle.surge.specs.Lent.{coldState, coldClock}
-use Rattle.passes.specs.Equations.{node, riseOf, rise, flowOf, flowAt, U′, V′, nextState}
+use Rattle.passes.specs.Equations.{riseOf, rise, flowOf, flowAt, nextState}
 use Rattle.surge.specs.Step.{Given, seaOf, advance}
-use Rattle.saves.specs.Held.{HeldClock, HeldState}
+use Rattle.surge.proofs.KeptLaws.{four-long}
+use Rattle.saves.specs.Storable.{StorableClock, StorableState}
 use Rattle.saves.specs.Load.{lineAt, clockOf, loadedNode, loadedState}
 
 -- each value of a list is a binary64; past its end it is NaN
@@ -38,41 +37,52 @@ join-fit [] b f g j = g j
 join-fit (x ∷ a) b f g zero = f 0
 join-fit (x ∷ a) b f g (suc j) = join-fit a b (λ i. f (suc i)) g j
 
-table-fit : (n : ℕ) (f : ℕ → Float) → ((i : ℕ) → T (fits binary64 (f i))) → AllFit (table n f)
+-- each value that a function gives is one
+abbrev EachFits : (ℕ → Float) → Type 0
+EachFits f = (i : ℕ) → T (fits binary64 (f i))
+
+table-fit : (n : ℕ) (f : ℕ → Float) → EachFits f → AllFit (table n f)
 unfolding table
 table-fit zero f h j = nan-fits binary64
 table-fit (suc n) f h zero = h 0
 table-fit (suc n) f h (suc j) = table-fit n (λ k. f (suc k)) (λ i. h (suc i)) j
 
+-- four tables of n
+four-storable : (n : ℕ) (a b c d : ℕ → Float) → EachFits a → EachFits b → EachFits c → EachFits d
+    → StorableState n (room (table n a ∷ table n b ∷ table n c ∷ table n d ∷ []))
+unfolding room
+four-storable n a b c d fa fb fc fd = record {
+  long = four-long n a b c d;
+  values = λ j _.
+      join-fit (table n a) _ (table-fit n a fa)
+      (join-fit (table n b) _ (table-fit n b fb)
+      (join-fit (table n c) _ (table-fit n c fc)
+      (join-fit (table n d) [] (table-fit n d fd) (λ i. nan-fits binary64)))) j;
+}
+
 -- the clock that is read of a text
-pub clock-held : (n : ℕ) (t : List ℕ) → HeldClock (clockOf n t)
+pub clock-storable : (n : ℕ) (t : List ℕ) → StorableClock (clockOf n t)
 unfolding clockOf
-clock-held n t = record { step = value-small (lineAt n t 0) 7 4; wx = ofBits-fits binary64 _; wy = ofBits-fits binary64 _ }
+clock-storable n t = record { step = value-small (lineAt n t 0) 7 4; wx = ofBits-fits binary64 _; wy = ofBits-fits binary64 _ }
 
 -- the state that is read of a text
-pub state-held : (h : List Float) (t : List ℕ) → HeldState (length h) (loadedState h t)
-unfolding loadedState loadedNode room
-state-held h t =
-    let n = length h in
-    let run : (at : ℕ) → List Float = λ at. table n (λ i. float (lineAt n t (suc i)) at) in
-    let long : (at : ℕ) → length (run at) ≡ n = λ at. length-table n _ in
-    let fit : (at : ℕ) → AllFit (run at) = λ at. table-fit n _ (λ i. ofBits-fits binary64 _) in
-    record {
-      long = room-length n (run 3 ∷ run 11 ∷ run 19 ∷ run 27 ∷ []) (long 3, (long 11, (long 19, (long 27, tt))));
-      values = λ j _. join-fit (run 3) _ (fit 3) (join-fit (run 11) _ (fit 11) (join-fit (run 19) _ (fit 19) (join-fit (run 27) [] (fit 27) (λ i. nan-fits binary64)))) j;
-    }
+pub state-storable : (h : List Float) (t : List ℕ) (n : ℕ) → length h ≡ n → StorableState n (loadedState h t)
+unfolding loadedState loadedNode
+state-storable h t n q =
+    subst (λ (k : ℕ). StorableState k (loadedState h t)) q
+    (four-storable (length h) _ _ _ _ (λ i. ofBits-fits binary64 _) (λ i. ofBits-fits binary64 _) (λ i. ofBits-fits binary64 _) (λ i. ofBits-fits binary64 _))
 
 -- a cold start
-pub cold-clock-held : HeldClock coldClock
+pub cold-clock-storable : StorableClock coldClock
 unfolding fits
-cold-clock-held = record { step = lit< tt; wx = tt; wy = tt }
+cold-clock-storable = record { step = lit< tt; wx = tt; wy = tt }
 
-pub cold-state-held : (n : ℕ) → HeldState n (coldState n)
+pub cold-state-storable : (n : ℕ) → StorableState n (coldState n)
 unfolding fits
-cold-state-held n = record { long = length-table (4 * n) _; values = λ j _. table-fit (4 * n) _ (λ i. tt) j }
+cold-state-storable n = record { long = length-table (4 * n) _; values = λ j _. table-fit (4 * n) _ (λ i. tt) j }
 
 -- ---- what the equations give of a run that can be saved, from a forcing of three binary64: a value of the run, of the forcing, or the result of an operation
-all-fit : (n : ℕ) (l : List Float) → HeldState n l → AllFit l
+all-fit : (n : ℕ) (l : List Float) → StorableState n l → AllFit l
 all-fit n l s j = go (ltb j (length l)) refl
   where
     go : (b : Bool) → ltb j (length l) ≡ b → T (fits binary64 (getD l j nan))
@@ -92,25 +102,13 @@ module _ (g : Given) (f : T (fits binary64 (g .forcing .elevation))) where
   unfolding rise riseOf z′
   rise-fit i = cond-fits binary64 (eqb (getD (g .mesh .kind) i 0) 1) _ _ f (add-fits binary64 _ _)
 
-  pub next-state-held : length (g .mesh .h) ≡ N (g .mesh) → HeldState (N (g .mesh)) (g .state) → HeldState (N (g .mesh)) (advance g .state)
-  unfolding advance nextState flowAt room
-  next-state-held q s =
-      let n = length (g .mesh .h) in
-      let w = seaOf g in
-      let a = table n (λ i. node w i .z) in
-      let b = table n (rise w (g .mesh .kind) (g .forcing)) in
-      let c = table n (U′ w (g .mesh .kind) (g .forcing)) in
-      let d = table n (V′ w (g .mesh .kind) (g .forcing)) in
-      record {
-        long = room-length n (a ∷ b ∷ c ∷ d ∷ []) (length-table n _, (length-table n _, (length-table n _, (length-table n _, tt)))) ∙ ap (λ (k : ℕ). 4 * k) q;
-        values = λ j _.
-            join-fit a _ (table-fit n _ (λ i. all-fit _ _ s (1 * n + i)))
-            (join-fit b _ (table-fit n _ rise-fit)
-            (join-fit c _ (table-fit n _ (λ i. flow-fit _ _ _ .0))
-            (join-fit d [] (table-fit n _ (λ i. flow-fit _ _ _ .1)) (λ i. nan-fits binary64)))) j;
-      }
+  pub next-state-storable : length (g .mesh .h) ≡ N (g .mesh) → StorableState (N (g .mesh)) (g .state) → StorableState (N (g .mesh)) (advance g .state)
+  unfolding advance nextState flowAt
+  next-state-storable q s =
+      subst (λ (k : ℕ). StorableState k (advance g .state)) q
+      (four-storable (length (g .mesh .h)) _ _ _ _ (λ i. all-fit _ _ s (1 * length (g .mesh .h) + i)) rise-fit (λ i. flow-fit _ _ _ .0) (λ i. flow-fit _ _ _ .1))
 
-  pub next-clock-held : T (fits binary64 (g .forcing .wx)) → T (fits binary64 (g .forcing .wy)) → (g .clock .step ≡ 4294967295 → ⊥) → HeldClock (g .clock)
-      → HeldClock (advance g .clock)
+  pub next-clock-storable : T (fits binary64 (g .forcing .wx)) → T (fits binary64 (g .forcing .wy)) → (g .clock .step ≡ 4294967295 → ⊥) → StorableClock (g .clock)
+      → StorableClock (advance g .clock)
   unfolding advance
-  next-clock-held fx fy l c = record { step = omega (arith, c .step, l); wx = fx; wy = fy }
+  next-clock-storable fx fy l c = record { step = omega (arith, c .step, l); wx = fx; wy = fy }
