@@ -86,14 +86,11 @@ module _ (h : List Float) (t : List ℕ) (n : ℕ) where
   pub loaded-all : length h ≡ n → (state : List Float) → length state ≡ 4 * n → Loaded state n → state ≡ loadedState h t
   unfolding loadedState table
   loaded-all q state long all =
-      let its : (k : ℕ) (read : Node → Float) → suc k * n ≤ length state → ((i : ℕ) → i < n → inRun n k state i ≡ read (loadedNode h t i))
-      → run n k state ≡ table n (λ i. read (loadedNode h t i)) =
-      λ k read l same. run-is n k state (λ i. read (loadedNode h t i)) l same in
       rw q
       (room-of-runs n 4 state long
       ∙ (λ j. room (
-      its 0 (λ c. c .earlier) (omega arith) (λ i b. ap (λ (c : Node). c .earlier) (all i b)) j
-      ∷ its 1 (λ c. c .z) (omega arith) (λ i b. ap (λ (c : Node). c .z) (all i b)) j
-      ∷ its 2 (λ c. c .u) (omega arith) (λ i b. ap (λ (c : Node). c .u) (all i b)) j
-      ∷ its 3 (λ c. c .v) (omega arith) (λ i b. ap (λ (c : Node). c .v) (all i b)) j
+      run-is n 0 state _ (omega arith) (λ i b. ap (λ (c : Node). c .earlier) (all i b)) j
+      ∷ run-is n 1 state _ (omega arith) (λ i b. ap (λ (c : Node). c .z) (all i b)) j
+      ∷ run-is n 2 state _ (omega arith) (λ i b. ap (λ (c : Node). c .u) (all i b)) j
+      ∷ run-is n 3 state _ (omega arith) (λ i b. ap (λ (c : Node). c .v) (all i b)) j
       ∷ [])))

@@ -10,7 +10,7 @@ ghost use mathlib.Core.Path.{_≡_};
 ghost use Prim.Native.Nat.{_+_, _*_, _<_, _≤_};
 ghost use lib.ListN.{length, take, drop, set};
 ghost use Rattle.lists.specs.Scan.{scan};
-ghost use Rattle.saves.specs.Lines.{layoutAt, due, startOf};
+ghost use Rattle.saves.specs.Lines.{layoutAt, due};
 ghost use Rattle.saves.specs.Load.{lineAt, row23, lineRows, clockOf, loadedNode, row10Read, textRows, loadedState};
 
 // A kind of line: its digits and its kind byte.
@@ -42,17 +42,6 @@ fn due(n: usize, j: usize) -> LineKind
     }
 }
 
-// Where line j starts: past a head of 57 bytes and nodes of 73.
-fn start(n: usize, j: usize) -> usize
-    requires { ⌜ (n ≤ 4096) × (j ≤ n + 1) ⌝ }
-    ensures { λ r. ⌜ r ≡ startOf n j ⌝ }
-{
-    if j == 0 {
-        return 0;
-    }
-    57 + 73 * (j - 1)
-}
-
 // `count` bytes of a text from `from` on, as many as there are.
 fn part(text: &[u8], from: usize, count: usize) -> &[u8]
     ensures { λ r. ⌜ now r ≡ take count (drop from (now (text .entry))) ⌝ }
@@ -67,13 +56,17 @@ fn part(text: &[u8], from: usize, count: usize) -> &[u8]
     &text[from..to]
 }
 
-// Line j. One that the text breaks off is as much of it as there is, which is of wrong length.
+// Line j, past a head of 57 bytes and nodes of 73. One that the text breaks off is as much of it as there is, which is of wrong length.
 fn line_at(n: usize, text: &[u8], j: usize) -> &[u8]
     requires { ⌜ (n ≤ 4096) × (j ≤ n + 1) ⌝ }
     ensures { λ r. ⌜ now r ≡ lineAt n (now (text .entry)) j ⌝ }
 {
+    if j == 0 {
+        return part(text, 0, 57);
+    }
+    let from = 57 + 73 * (j - 1);
     let count = due(n, j).digits + 1;
-    part(text, start(n, j), count)
+    part(text, from, count)
 }
 
 // Row 23 of line j: N and E at the head, nothing at a node's line, N at the end line.

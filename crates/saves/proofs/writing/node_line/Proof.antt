@@ -13,19 +13,9 @@ returns c =
     let e = d .before .before .before in
     let f = e .before .before .before in
     let a = f .before .before .before .before .before .args in
-    rw (
-      c .seal .ensures,
-      c .before .append4 .ensures,
-      c .before .before .pattern-of4 .ensures,
-      d .append3 .ensures,
-      d .before .pattern-of3 .ensures,
-      e .append2 .ensures,
-      e .before .pattern-of2 .ensures,
-      f .append .ensures,
-      f .before .pattern-of .ensures,
-      f .before .before .before .begin .ensures,
-    )
-    (built (nodeLine (a .i) (stateValues (a .n) (a .state .now) (a .i))) (lit< tt))
+    rw (c .seal .ensures, c .before .append4 .ensures, c .before .before .pattern-of4 .ensures, d .append3 .ensures, d .before .pattern-of3 .ensures)
+    (rw (e .append2 .ensures, e .before .pattern-of2 .ensures, f .append .ensures, f .before .pattern-of .ensures, f .before .before .before .begin .ensures)
+    (built (nodeLine (a .i) (stateValues (a .n) (a .state .now) (a .i))) (lit< tt)))
 
 pub node-line-spec : {M : Type 1} → statement M
 node-line-spec =
