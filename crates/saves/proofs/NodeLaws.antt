@@ -32,7 +32,7 @@ abbrev pub stored : ℕ → List Float → ℕ → Node → List Float
 stored n s i c = set (set (set (set s (0 * n + i) (c .earlier)) (1 * n + i) (c .z)) (2 * n + i) (c .u)) (3 * n + i) (c .v)
 
 module _ (n : ℕ) (s : List Float) (i : ℕ) (c : Node) (l : i < n) where
-  -- the places of another node are others
+  -- of which node a place is
   rest : (a k : ℕ) → k < n → (a * n + k) % n ≡ k
   rest a k h = mul-add-mod-self-right a n k ∙ mod-eq-of-lt h
 
@@ -55,6 +55,7 @@ module _ (n : ℕ) (s : List Float) (i : ℕ) (c : Node) (l : i < n) where
   past1 : (p : ℕ) → (p ≡ 1 * n + i → ⊥) → (p ≡ 2 * n + i → ⊥) → (p ≡ 3 * n + i → ⊥) → getD (stored n s i c) p nan ≡ getD one p nan
   past1 p ne ne2 ne3 = past2 p ne2 ne3 ∙ getD-set-other one (1 * n + i) p (c .z) nan ne
 
+  -- the other nodes are as they were, and node i is what was stored
   other-node : (h : List Float) (k : ℕ) → k < n → (k ≡ i → ⊥) → nodeIn n h (stored n s i c) k ≡ nodeIn n h s k
   other-node h k m ne =
       let apart : (b a : ℕ) → b * n + k ≡ a * n + i → ⊥ = λ b a q. ne (sym (rest b k m) ∙ ap (λ (p : ℕ). p % n) q ∙ rest a i l) in

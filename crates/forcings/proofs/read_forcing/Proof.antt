@@ -1,4 +1,3 @@
-use borrow.Author.Needs.{needs}
 use borrow.Author.Tests.{eq-eqb, ne-eqb}
 use lib.Ieee.{ofBits}
 use Rattle.lists.proofs.ScanLaws.{same-number, other-number}
@@ -21,4 +20,4 @@ returns-2 c =
     (λ i. record { answer = its i; forcing = record { elevation = read .float-at .ensures i; wx = c .before .float-at2 .ensures i; wy = c .float-at3 .ensures i } })
 
 pub read-forcing-spec : {M : Type 1} → statement M
-read-forcing-spec = tie.close (tie.spec (λ c κs. search needs) returns (λ c κs. search needs) (λ c κs. search needs) (λ c κs. search needs) returns-2)
+read-forcing-spec = tie.close (tie.spec (λ c κs. tt) returns (λ c κs. tt) (λ c κs. tt) (λ c κs. tt) returns-2)

@@ -70,5 +70,5 @@ returns-3 c =
 pub load-spec : {M : Type 1} → statement M
 load-spec =
     tie.close
-    (tie.spec (λ c κs. search needs) (λ c κs. search needs) returns (λ c κs. few c) returns-2 fill-requires
+    (tie.spec (λ c κs. tt) (λ c κs. tt) returns (λ c κs. few c) returns-2 fill-requires
     (λ c κs. few (c .before .before .before .before .before .before .before)) (λ c. search needs) returns-3)

@@ -36,5 +36,5 @@ returns-2 c = c .accept .ensures ∙ sym (scan-none _ _ (λ k h. c .before .befo
 pub bounds-spec : {M : Type 1} → statement M
 bounds-spec =
     tie.close
-    (tie.spec Inv-loop μ-loop (λ c. (search needs, below-none _)) (λ c κs. search needs) (λ c κs. search needs) (λ c κs. search needs) returns (λ c. search needs) (λ c. search needs)
-    loop-again (λ c κs. search needs) returns-2)
+    (tie.spec Inv-loop μ-loop (λ c. (search needs, below-none _)) (λ c κs. search needs) (λ c κs. tt) (λ c κs. tt) returns (λ c. search needs) (λ c. search needs)
+    loop-again (λ c κs. tt) returns-2)

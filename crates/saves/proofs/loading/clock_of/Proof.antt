@@ -15,4 +15,4 @@ returns c =
     rw (c .float-at2 .ensures, f .float-at .ensures, f .before .value .ensures, f .before .before .line-at .ensures)
 
 pub clock-of-spec : {M : Type 1} → statement M
-clock-of-spec = tie.close (tie.spec (λ c κs. search needs) (λ c κs. search needs) cast-t5 (λ c κs. search needs) (λ c κs. search needs) returns)
+clock-of-spec = tie.close (tie.spec (λ c κs. search needs) (λ c κs. tt) cast-t5 (λ c κs. tt) (λ c κs. tt) returns)

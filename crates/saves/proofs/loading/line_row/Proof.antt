@@ -11,4 +11,4 @@ returns c =
     rw (c .first .ensures, c .before .counts .ensures, f .fault .ensures, d .due .ensures .1, d .due .ensures .0, d .before .line-at .ensures)
 
 pub line-row-spec : {M : Type 1} → statement M
-line-row-spec = tie.close (tie.spec (λ c κs. search needs) (λ c κs. search needs) (λ c κs. search needs) (λ c κs. search needs) (λ c κs. search needs) returns)
+line-row-spec = tie.close (tie.spec (λ c κs. search needs) (λ c κs. tt) (λ c κs. tt) (λ c κs. tt) (λ c κs. tt) returns)

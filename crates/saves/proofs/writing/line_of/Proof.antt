@@ -27,4 +27,4 @@ returns-3 c =
     rw (c .end-line .ensures, q, last)
 
 pub line-of-spec : {M : Type 1} → statement M
-line-of-spec = tie.close (tie.spec (λ c κs. search needs) returns (λ c. search needs) (λ c κs. search needs) (λ c κs. search needs) returns-2 returns-3)
+line-of-spec = tie.close (tie.spec (λ c κs. tt) returns (λ c. search needs) (λ c κs. search needs) (λ c κs. search needs) returns-2 returns-3)
