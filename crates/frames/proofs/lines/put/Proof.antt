@@ -6,7 +6,7 @@ use native.Mathlib.Omega.{arith}
 use borrow.Author.Needs.{needs}
 use lib.ListN.{length, take}
 use lib.Seq.{paste, paste-zero, paste-suc, length-paste, take-all}
-use Rattle.frames.specs.Building.{room, written}
+use Rattle.frames.specs.Building.{longest, written}
 use Rattle.frames.proofs.BuildLaws.{put-fits, put-not}
 use Rattle.frames.proofs.lines.put.Statement.{statement}
 use Rattle.frames.proofs.lines.put.Tie as tie
@@ -20,13 +20,13 @@ abbrev μ-loop : tie.MeasureT-loop
 -- n bytes of the line are written, all of them where its length is past its room
 some : (c : tie.Joined1 Inv-loop μ-loop)
     → let l = c .before .args .t3 in
-    (written l ≡ take (c .if1 .n) (l .bytes)) × (c .if1 .n ≤ length (l .bytes)) × (c .if1 .n ≤ room)
+    (written l ≡ take (c .if1 .n) (l .bytes)) × (c .if1 .n ≤ length (l .bytes)) × (c .if1 .n ≤ longest)
 unfolding written
 some c =
     let l = c .before .args .t3 in
-    let z : length (l .bytes) ≡ room = search needs in
+    let z : length (l .bytes) ≡ longest = search needs in
     ⊎-elim (λ w. (rw (w .1), omega arith, omega arith))
-    (λ w. (rw (w .1) (take-all (l .len) (l .bytes) (omega arith) ∙ sym (take-all room (l .bytes) (omega arith))), omega arith, omega arith)) (c .if1 .came)
+    (λ w. (rw (w .1) (take-all (l .len) (l .bytes) (omega arith) ∙ sym (take-all longest (l .bytes) (omega arith))), omega arith, omega arith)) (c .if1 .came)
 
 long : (c : tie.At-loop Inv-loop μ-loop) → length (c .loop .text) ≡ length (c .before .before .before .before .before .args .text .now)
 long c =

@@ -4,7 +4,7 @@ use native.Mathlib.Omega.{arith}
 use borrow.Author.Needs.{needs}
 use lib.ListN.{length, length-set}
 use Rattle.frames.specs.Bytes.{digits, field}
-use Rattle.frames.specs.Building.{room, laid}
+use Rattle.frames.specs.Building.{longest, laid}
 use Rattle.frames.proofs.LaidLaws.{laid-none}
 use Rattle.frames.proofs.BuildLaws.{field-digits, field-turn, appended-room, appended-full}
 use Rattle.frames.proofs.lines.Line.append.Statement.{statement}
@@ -12,7 +12,7 @@ use Rattle.frames.proofs.lines.Line.append.Tie as tie
 
 abbrev Inv-loop : tie.InvT-loop
 Inv-loop width value at line₀ rest₀ left₀ line rest left =
-    (left ≤ width) × (length (line .bytes) ≡ room) × (laid (line .bytes) at (digits (field left rest)) ≡ laid (line₀ .bytes) at (digits (field width value)))
+    (left ≤ width) × (length (line .bytes) ≡ longest) × (laid (line .bytes) at (digits (field left rest)) ≡ laid (line₀ .bytes) at (digits (field width value)))
 
 abbrev μ-loop : tie.MeasureT-loop
 μ-loop width value at line₀ rest₀ left₀ line rest left = left
