@@ -7,7 +7,7 @@ use Rattle.equations.specs.declared.Parameters.{Parameters}
 use Rattle.surge.specs.declared.Clock.{Clock}
 use Rattle.equations.specs.declared.Forcing.{Forcing}
 use Rattle.surge.specs.declared.Reply.{Reply}
-use Rattle.saves.specs.declared.Taken.{Taken}
+use Rattle.forcings.specs.declared.Taken.{Taken}
 
 abbrev pub parameters : Float → Float → Float → Float → Parameters
 parameters dt tau k f = record { dt = dt; tau = tau; k = k; f = f }

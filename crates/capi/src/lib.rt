@@ -13,7 +13,7 @@ ghost use Rattle.surge.specs.Step.{given, stepOut, stepOf};
 ghost use Rattle.passes.specs.Settle.{lentRooms};
 ghost use Rattle.saves.specs.Save.{saveOut, saveOf};
 ghost use Rattle.saves.specs.Load.{loadOf};
-ghost use Rattle.saves.specs.Forcings.{takenOf};
+ghost use Rattle.forcings.specs.Forcings.{takenOf};
 ghost use Rattle.capi.specs.Numbers.{parameters, clock, forcing, answer, reply, taken};
 
 // Hands back what a call on a run replies: all but the number through pointers.
@@ -178,7 +178,7 @@ pub extern "C" fn surge_read_forcing(
 ) -> u32
     ensures { λ r. ⌜ taken (answer r (now (place .exit)) (now (value .exit))) (forcing (now (elevation .exit)) (now (wx .exit)) (now (wy .exit))) ≡ takenOf (now (line .entry)) expected ⌝ }
 {
-    let read = saves::read_forcing(line, expected);
+    let read = forcings::read_forcing(line, expected);
     *place = read.answer.place;
     *value = read.answer.value;
     *elevation = read.forcing.elevation;

@@ -9,8 +9,8 @@ use Rattle.lists.proofs.ScanLaws.{row-passed, then-rest, both-right}
 use Rattle.frames.specs.Reading.{value, row22, fault}
 use Rattle.frames.proofs.BackLaws.{value-small}
 use Rattle.surge.specs.Step.{StepOut}
-use Rattle.saves.specs.declared.Taken.{Taken}
-use Rattle.saves.specs.Forcings.{takenOf}
+use Rattle.forcings.specs.declared.Taken.{Taken}
+use Rattle.forcings.specs.Forcings.{takenOf}
 use Rattle.forcelog.specs.declared.Log.{Log}
 use Rattle.forcelog.specs.declared.Took.{Took}
 use Rattle.forcelog.specs.Log.{stepped, refusedAt, gone, afterStep, afterRead, takeOf}

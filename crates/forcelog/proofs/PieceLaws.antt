@@ -14,7 +14,7 @@ use Rattle.lists.proofs.ScanLaws.{row-fails, stops, other-number, both-left, bo
 use Rattle.frames.specs.Bytes.{worth, isDigit, allDigits}
 use Rattle.frames.specs.Frames.{lineFeed}
 use Rattle.frames.specs.Reading.{isFramed, row20, fault}
-use Rattle.saves.specs.Forcings.{takenOf}
+use Rattle.forcings.specs.Forcings.{takenOf}
 use Rattle.forcelog.specs.declared.Log.{Log}
 use Rattle.forcelog.specs.Log.{coldLog, refusedAt, takeOf}
 use Rattle.forcelog.specs.Printed.{taking, longer, linesOf, printed, piecesOf, pieces}

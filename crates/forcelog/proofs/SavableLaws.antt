@@ -15,12 +15,12 @@ use Rattle.surge.specs.Lent.{After}
 use Rattle.surge.specs.Open.{openAnswer, openOf}
 use Rattle.bounds.specs.State.{rows1to10}
 use Rattle.surge.specs.State.{windOf}
-use Rattle.surge.specs.Step.{given, advance}
-use Rattle.passes.specs.Settle.{roomy}
-use Rattle.surge.proofs.KeptLaws.{went-on, next-rows, next-wind, cold-rows, cold-wind, opened-mesh}
-use Rattle.saves.specs.Forcings.{takenOf}
+use Rattle.surge.specs.Step.{Given, given, advance, stepOf}
+use Rattle.passes.specs.Settle.{Rooms, roomy}
+use Rattle.surge.proofs.KeptLaws.{WentOn, went-on, next-rows, next-wind, cold-rows, cold-wind, opened-mesh}
+use Rattle.forcings.specs.Forcings.{takenOf}
 use Rattle.saves.specs.Save.{saveAnswer, saveOut, wrote, saveOf}
-use Rattle.saves.proofs.KeptLaws.{save-fine}
+use Rattle.saves.proofs.SaveLaws.{save-fine}
 use Rattle.forcelog.specs.declared.Log.{Log}
 use Rattle.forcelog.specs.declared.Took.{Took}
 use Rattle.forcelog.specs.MeshT.{T, T-parameters}

@@ -9,8 +9,8 @@ use Rattle.equations.specs.declared.Forcing.{Forcing}
 use Rattle.surge.specs.Lent.{coldState, coldClock}
 use Rattle.surge.specs.Step.{StepOut, given, stepOf}
 use Rattle.passes.specs.Settle.{Rooms, lentRooms}
-use Rattle.saves.specs.declared.Taken.{Taken}
-use Rattle.saves.specs.Forcings.{takenOf}
+use Rattle.forcings.specs.declared.Taken.{Taken}
+use Rattle.forcings.specs.Forcings.{takenOf}
 use Rattle.saves.specs.Save.{SaveOut, saveOf}
 use Rattle.forcelog.specs.declared.Log.{Log}
 use Rattle.forcelog.specs.declared.Took.{Took}

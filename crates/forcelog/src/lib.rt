@@ -120,7 +120,7 @@ fn step(forcing: Forcing, log: Log) -> Took
 pub fn take(line: &[u8], log: Log) -> Took
     ensures { λ r. ⌜ r ≡ takeOf (now (line .entry)) log ⌝ }
 {
-    let read = saves::read_forcing(line, log.lines);
+    let read = forcings::read_forcing(line, log.lines);
     let fault = read.answer;
     if fault.number != 0 {
         return refused(fault, log);

@@ -6,15 +6,18 @@ use mathlib.Core.Bool.{Bool, true, false}
 use native.Mathlib.Nat.{one-le-pow}
 use native.Mathlib.Omega.{arith}
 use borrow.Author.Tests.{eq-eqb, le-leb}
-use lib.Dec.{lit<, lit≤, leb}
+use lib.Dec.{T, lit<, lit≤, leb}
 use lib.ListN.{length, take, drop, getD}
 use lib.Seq.{take-at, drop-at, getD-at, split-at}
+use lib.Ieee.{Float, binary64, fits, ofBits}
 use Rattle.lists.specs.Scan.{accepted, _then_}
 use Rattle.lists.proofs.ScanLaws.{row-holds}
 use Rattle.frames.specs.Bytes.{digits, allDigits, field, check}
-use Rattle.frames.specs.Frames.{Field, Frame, Held, wide, opening, allFields, fieldBytes, checked, frameBytes, lineFeed, text, widthsOf, digitsOf, byteOf, fieldAt}
-use Rattle.frames.specs.Reading.{value, isFramed, row20, row21, row22, fault}
-use Rattle.frames.proofs.ByteLaws.{digits-right, digits-length, field-length, number-back, number-small}
+use Rattle.frames.specs.Frames.{Field, Frame, Held, wide, opening, allFields, fieldBytes, checked, frameBytes, lineFeed, text, bits, widthsOf, digitsOf, byteOf, fieldAt}
+use Rattle.frames.specs.Reading.{value, float, isFramed, row20, row21, row22, fault}
+use Rattle.frames.proofs.ByteLaws.{digits-right, digits-length, field-length}
+use Rattle.frames.proofs.PatternLaws.{pattern-fits, float-back}
+use Rattle.frames.proofs.NumberLaws.{number-back, number-small}
 use Rattle.frames.proofs.FrameLaws.{fields-before, fields-join, checked-sum, frame-bytes, line-digits, text-length, text-bytes}
 
 -- ---- a value that is read is small enough for its width, on every line
@@ -48,6 +51,24 @@ module _ (f : Frame) where
       ap (λ (k : ℕ). value (text f) k (fieldAt (f .fields) j .width)) (omega (arith, fields-before (f .fields) j))
       ∙ value-back (o ++ take j (f .fields)) (fieldAt (f .fields) j) (drop (suc j) (f .fields))
       (ap (λ (l : List Field). o ++ l) (split-at (f .fields) j (wide 0 0) l)) h
+
+  -- a float that is field j of a frame is read back
+  pub float-field : (j : ℕ) → j < length (f .fields) → (x : Float) → fieldAt (f .fields) j ≡ wide 8 (bits x) → T (fits binary64 x)
+      → float (text f) (byteOf (widthsOf (f .fields)) j) ≡ x
+  float-field j l x q h =
+      let back = field-back j l (rw q (record { narrow = lit≤ tt; small = pattern-fits x h })) in
+      ap (ofBits binary64) (rw q at back) ∙ float-back x h
+
+  even : digitsOf (widthsOf (f .fields)) % 2 ≡ 0
+  even = rw (← line-digits f, digits-length (frameBytes f)) (omega arith)
+
+  feed : getD (text f) (digitsOf (widthsOf (f .fields))) 0 ≡ lineFeed
+  unfolding text
+  feed = getD-at (digits (frameBytes f)) lineFeed [] 0 (digitsOf (widthsOf (f .fields))) (line-digits f)
+
+  right : allDigits (text f) ≡ true
+  unfolding text allDigits
+  right = digits-right (frameBytes f) (lineFeed ∷ []) (frame-bytes f)
 
   -- a frame's line is read without fault, by its own digits, kind and sequence
   pub line-fine : (place : ℕ) → f .kind < 256 → f .sequence < 65536 → fault (text f) (digitsOf (widthsOf (f .fields))) (f .kind) (f .sequence) place ≡ accepted

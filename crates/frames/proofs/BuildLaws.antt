@@ -10,7 +10,7 @@ use lib.Seq.{drop-at, drop-append-add, take-append-seam}
 use Rattle.frames.specs.declared.lines.Line.{Line}
 use Rattle.frames.specs.Bytes.{digit, digits, bytes, field, sum, check}
 use Rattle.frames.specs.Frames.{lineFeed}
-use Rattle.frames.specs.Building.{room, written, holding, laid, appended, sealed, putOut, putOf}
+use Rattle.frames.specs.Building.{longest, written, holding, laid, appended, sealed, putOut, putOf}
 use Rattle.frames.proofs.ByteLaws.{digits-join, digits-length, field-length}
 use Rattle.frames.proofs.LaidLaws.{laid-more, laid-last}
 
@@ -45,16 +45,23 @@ hex-turn l at k v h = rw hex-length at (laid-last l at (hex k (v / 16)) (digit (
 
 -- ---- appending, with and without room
 module _ (l : Line) (t : List ℕ) where
-  pub appended-room : l .len + length t ≤ room → appended l t ≡ record { bytes = laid (l .bytes) (l .len) t; len = l .len + length t }
+  pub appended-room : l .len + length t ≤ longest → appended l t ≡ record { bytes = laid (l .bytes) (l .len) t; len = l .len + length t }
   unfolding appended
-  appended-room h = rw (le-leb (l .len + length t) room h)
+  appended-room h = rw (le-leb (l .len + length t) longest h)
 
-  pub appended-full : room < l .len + length t → appended l t ≡ l
+  pub appended-full : longest < l .len + length t → appended l t ≡ l
   unfolding appended
-  appended-full h = rw (lt-leb (l .len + length t) room h)
+  appended-full h = rw (lt-leb (l .len + length t) longest h)
+
+pub sealed-full : (l : Line) → longest < l .len + 3 → sealed l ≡ l
+unfolding sealed digits
+sealed-full l h = appended-full l _ h
+
+with-len : ℕ → List ℕ → Line
+with-len n b = record { bytes = b; len = n }
 
 -- the check byte is a field of one byte, and the line feed stands after it
-pub sealed-room : (l m : Line) → length (l .bytes) ≡ room → l .len + 3 ≤ room → m ≡ appended l (digits (field 1 (256 - sum (bytes (written l)) % 256)))
+pub sealed-room : (l m : Line) → length (l .bytes) ≡ longest → l .len + 3 ≤ longest → m ≡ appended l (digits (field 1 (256 - sum (bytes (written l)) % 256)))
     → _≡_ {A = Line} (record { bytes = set (m .bytes) (l .len + 2) lineFeed; len = l .len + 3 }) (sealed l)
 unfolding sealed digits field check
 sealed-room l m n h e =
@@ -65,18 +72,18 @@ sealed-room l m n h e =
 -- ---- a line that holds a text
 pub written-holding : (t : List ℕ) → written (holding t) ≡ t
 unfolding written holding
-written-holding t = take-append-seam t (replicate (room - length t) 0)
+written-holding t = take-append-seam t (replicate (longest - length t) 0)
 
 past : (n k : ℕ) → drop {A = ℕ} n (replicate (n + k) 0) ≡ replicate k 0
 past n k = ap (drop {A = ℕ} n) (sym (replicate-append-replicate n k 0)) ∙ drop-at (replicate n 0) (replicate k 0) n (length-replicate n 0)
 
-pub appended-holding : (t u : List ℕ) → length t + length u ≤ room → appended (holding t) u ≡ holding (t ++ u)
+pub appended-holding : (t u : List ℕ) → length t + length u ≤ longest → appended (holding t) u ≡ holding (t ++ u)
 unfolding holding laid
 appended-holding t u h =
-    let k = room - (length t + length u) in
-    let m : room - length t ≡ length u + k = omega arith in
+    let k = longest - (length t + length u) in
+    let m : longest - length t ≡ length u + k = omega arith in
     appended-room (holding t) u h
-    ∙ rw (length-append t u, take-append-seam t (replicate (room - length t) 0), drop-append-add t (replicate (room - length t) 0) (length u), m, past (length u) k)
+    ∙ rw (length-append t u, take-append-seam t (replicate (longest - length t) 0), drop-append-add t (replicate (longest - length t) 0) (length u), m, past (length u) k)
 
 -- ---- a line that holds t, put into a text
 module _ (text : List ℕ) (at : ℕ) (l : Line) {t : List ℕ} (w : written l ≡ t) where

@@ -8,8 +8,9 @@ use lib.Dec.{lit<}
 use lib.ListN.{length, take, length-append}
 use Rattle.frames.specs.Bytes.{digits, bytes, field, sum, check}
 use Rattle.frames.specs.Frames.{Field, Frame, allFields, fieldBytes, checked, frameBytes, lineFeed, text, widthsOf, digitsOf, byteOf}
-use Rattle.frames.specs.Building.{room, holding, withFields, begun, sealed}
-use Rattle.frames.proofs.ByteLaws.{Bytes, bytes-join, field-bytes, bytes-back, digits-join, digits-length, field-length, sum-join}
+use Rattle.frames.specs.Building.{longest, holding, withFields, begun, sealed}
+use Rattle.frames.proofs.ByteLaws.{Bytes, bytes-join, field-bytes, bytes-back, digits-join, digits-length, field-length}
+use Rattle.frames.proofs.NumberLaws.{sum-join}
 use Rattle.frames.proofs.BuildLaws.{written-holding, appended-holding}
 
 -- ---- the bytes of fields
@@ -45,7 +46,7 @@ unfolding checked check sum
 checked-sum bs = rw (sum-join bs (check bs ∷ [])) (omega arith)
 
 -- ---- a line that holds fields
-fields-holding : (t : List ℕ) (fs : List Field) → length t + length (digits (fieldBytes fs)) ≤ room → withFields (holding t) fs ≡ holding (t ++ digits (fieldBytes fs))
+fields-holding : (t : List ℕ) (fs : List Field) → length t + length (digits (fieldBytes fs)) ≤ longest → withFields (holding t) fs ≡ holding (t ++ digits (fieldBytes fs))
 unfolding withFields fieldBytes digits
 fields-holding t [] h = ap holding (sym (append-nil t))
 fields-holding t (f ∷ fs) h =
@@ -56,12 +57,13 @@ fields-holding t (f ∷ fs) h =
     let m = length-append t u in
     rw (both, appended-holding t u (omega arith), fields-holding (t ++ u) fs (omega arith), append-assoc)
 
-sealed-holding : (bs : List ℕ) → Bytes bs → length (digits bs) + 3 ≤ room → sealed (holding (digits bs)) ≡ holding (digits (checked bs) ++ (lineFeed ∷ []))
-unfolding sealed checked bytes digits
+sealed-holding : (bs : List ℕ) → Bytes bs → length (digits bs) + 3 ≤ longest → sealed (holding (digits bs)) ≡ holding (digits (checked bs) ++ (lineFeed ∷ []))
+unfolding sealed checked bytes
 sealed-holding bs p h =
     let u = digits (check bs ∷ []) ++ (lineFeed ∷ []) in
     let back : bytes (digits bs) ≡ bs = ap bytes (sym (append-nil (digits bs))) ∙ bytes-back bs [] p ∙ append-nil bs in
-    rw (written-holding, back, appended-holding (digits bs) u h, digits-join bs (check bs ∷ []), append-assoc)
+    let fits : length (digits bs) + length u ≤ longest = omega (arith, ending-length (check bs)) in
+    rw (written-holding, back, appended-holding (digits bs) u fits, digits-join bs (check bs ∷ []), append-assoc)
 
 -- ---- a frame's line
 module _ (f : Frame) where
@@ -86,7 +88,7 @@ module _ (f : Frame) where
   text-bytes = bytes-back (frameBytes f) (lineFeed ∷ []) frame-bytes ∙ append-nil (frameBytes f)
 
   -- ---- what is begun, appended and sealed is the frame's line
-  pub built : digitsOf (widthsOf (f .fields)) < room → sealed (withFields (begun (f .kind) (f .sequence)) (f .fields)) ≡ holding (text f)
+  pub built : digitsOf (widthsOf (f .fields)) < longest → sealed (withFields (begun (f .kind) (f .sequence)) (f .fields)) ≡ holding (text f)
   unfolding withFields fieldBytes field text
   built h =
       let b = fieldBytes (allFields f) in

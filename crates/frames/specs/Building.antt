@@ -9,8 +9,8 @@ use Rattle.frames.specs.Bytes.{digits, bytes, field, check}
 use Rattle.frames.specs.Frames.{Field, opening, lineFeed}
 
 -- "a byte array of 72 digits plus line feed"
-abbrev pub room : ℕ
-room = 73
+abbrev pub longest : ℕ
+longest = 73
 
 -- what a line holds
 unfoldable pub written : Line → List ℕ
@@ -18,7 +18,7 @@ written l = take (l .len) (l .bytes)
 
 -- the line that holds t, and is 0 past it
 unfoldable pub holding : List ℕ → Line
-holding t = record { bytes = t ++ replicate (room - length t) 0; len = length t }
+holding t = record { bytes = t ++ replicate (longest - length t) 0; len = length t }
 
 -- a list with t laid over it from the place `at` on
 unfoldable pub laid : List ℕ → ℕ → List ℕ → List ℕ
@@ -26,7 +26,7 @@ laid l at t = take at l ++ t ++ drop (at + length t) l
 
 -- "appended to by value": with t after what the line holds; unchanged where there is no room
 unfoldable pub appended : Line → List ℕ → Line
-appended l t = cond (leb (l .len + length t) room) (record { bytes = laid (l .bytes) (l .len) t; len = l .len + length t }) l
+appended l t = cond (leb (l .len + length t) longest) (record { bytes = laid (l .bytes) (l .len) t; len = l .len + length t }) l
 
 unfoldable pub withFields : Line → List Field → Line
 withFields l [] = l

@@ -2,6 +2,7 @@
 use Prim.Native.Nat.{ℕ, zero, suc, _+_, _*_, _^_, _<_, _≤_}
 use mathlib.Core.List.{List, [], _∷_, _++_}
 use lib.ListN.{getD}
+use lib.Ieee.{Float, binary64, toBits}
 use Rattle.frames.specs.Bytes.{digits, field, check}
 
 -- a number and the bytes that it takes, as in "N (2), E (2), step (4), Wx, Wy"
@@ -41,6 +42,24 @@ lineFeed = 10
 -- "one frame a line, ended by a line feed"
 unfoldable pub text : Frame → List ℕ
 text f = digits (frameBytes f) ++ (lineFeed ∷ [])
+
+-- ---- a line kind: the kind byte, and how many bytes each field has. Writing and reading share it
+pub record Layout : Type 0 where
+  pub kind : ℕ
+  pub widths : List ℕ
+
+abbrev pub laidOut : List ℕ → List ℕ → List Field
+laidOut [] vs = []
+laidOut (w ∷ ws) [] = []
+laidOut (w ∷ ws) (v ∷ vs) = wide w v ∷ laidOut ws vs
+
+-- the line of this layout with these values in its fields
+abbrev pub line : Layout → ℕ → List ℕ → Frame
+line l sequence values = record { kind = l .kind; sequence = sequence; fields = laidOut (l .widths) values }
+
+-- "floats are their 8-byte patterns"
+abbrev pub bits : Float → ℕ
+bits x = toBits binary64 x
 
 -- ---- what follows from how many bytes each field has
 abbrev pub widthsOf : List Field → List ℕ

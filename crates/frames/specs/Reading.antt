@@ -4,6 +4,7 @@ use mathlib.Core.List.{List, [], _∷_}
 use mathlib.Core.Bool.{Bool, _&&_, cond}
 use lib.ListN.{length, take, drop, getD}
 use lib.Dec.{leb, eqb}
+use lib.Ieee.{Float, binary64, ofBits}
 use Rattle.lists.specs.declared.rows.Answer.{Answer}
 use Rattle.lists.specs.Scan.{row, _then_}
 use Rattle.frames.specs.declared.digits.Tally.{Tally}
@@ -13,6 +14,10 @@ use Rattle.frames.specs.Frames.{lineFeed}
 -- the number in the `width` bytes from byte `at` of a line on, as many as it has; 0 where a field would be wider than 8
 unfoldable pub value : List ℕ → ℕ → ℕ → ℕ
 value line at width = cond (leb width 8) (number (take width (drop at (bytes line)))) 0
+
+-- "floats are their 8-byte patterns": the float of the 8 bytes at a frame byte. Every NaN pattern is read as NaN, of which there is one
+abbrev pub float : List ℕ → ℕ → Float
+float line at = ofBits binary64 (value line at 8)
 
 -- the four fields of 8 bytes that follow kind and sequence, as in a node's line
 unfoldable pub values : List ℕ → List ℕ

@@ -5,12 +5,13 @@ ghost use Rattle.frames.specs.Bytes.{digits, field};
 ghost use Rattle.frames.specs.Building.{appended, begun, sealed, putOut, putOf};
 
 // The digits of the longest line, and its line feed.
-const ROOM: usize = 73;
+const LONGEST: usize = 73;
 
-const SEAL_ROOM: usize = ROOM - 3;
+// What a line may hold at most, so that check byte and line feed still go behind it.
+const SEALABLE: usize = LONGEST - 3;
 
 pub struct Line {
-    bytes: [u8; ROOM],
+    bytes: [u8; LONGEST],
     len: usize,
 }
 
@@ -19,7 +20,7 @@ impl Line {
         ensures { λ r. ⌜ r ≡ begun kind sequence ⌝ }
     {
         let blank = Line {
-            bytes: [0u8; ROOM],
+            bytes: [0u8; LONGEST],
             len: 0,
         };
         blank.append(1, kind as u64).append(2, sequence)
@@ -30,10 +31,10 @@ impl Line {
         ensures { λ r. ⌜ r ≡ appended self (digits (field width value)) ⌝ }
     {
         let at = self.len;
-        if ROOM < at {
+        if LONGEST < at {
             return self;
         }
-        if (ROOM - at) / 2 < width {
+        if (LONGEST - at) / 2 < width {
             return self;
         }
         let mut bytes = self.bytes;
@@ -53,7 +54,7 @@ impl Line {
         ensures { λ r. ⌜ r ≡ sealed self ⌝ }
     {
         let at = self.len;
-        if SEAL_ROOM < at {
+        if SEALABLE < at {
             return self;
         }
         let bytes = self.bytes;
@@ -70,7 +71,7 @@ pub fn put(text: &mut [u8], at: usize, line: Line) -> usize
     ensures { λ r. ⌜ putOut r (now (text .exit)) ≡ putOf (now (text .entry)) at line ⌝ }
 {
     let len = line.len;
-    let n = if len < ROOM { len } else { ROOM };
+    let n = if len < LONGEST { len } else { LONGEST };
     if text.len() < n {
         return at;
     }

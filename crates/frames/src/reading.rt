@@ -1,12 +1,13 @@
 // One line, read from a slice: rows 20 to 22 of the refusal table, and the values of its fields.
 use crate::digits;
+use crate::patterns;
 use lists::rows;
 use lists::rows::Answer;
 ghost use mathlib.Core.Path.{_≡_};
 ghost use Prim.Native.Nat.{_<_, _≤_};
 ghost use lib.ListN.{take, drop};
 ghost use Rattle.frames.specs.Bytes.{number};
-ghost use Rattle.frames.specs.Reading.{isFramed, value, values, fault};
+ghost use Rattle.frames.specs.Reading.{isFramed, value, float, values, fault};
 
 // The field of `width` bytes that starts at byte `at` of a line.
 pub fn value(line: &[u8], at: usize, width: usize) -> u64
@@ -28,6 +29,13 @@ pub fn value(line: &[u8], at: usize, width: usize) -> u64
         k += 1;
     }
     v
+}
+
+// The float of the 8 bytes that start at a frame byte of a line.
+pub fn float_at(line: &[u8], at: usize) -> f64
+    ensures { λ r. ⌜ r ≡ float (now (line .entry)) at ⌝ }
+{
+    patterns::float_of(value(line, at, 8))
 }
 
 // A byte as a number, with its bound: of an array's element the bound is not known otherwise.

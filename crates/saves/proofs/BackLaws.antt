@@ -1,29 +1,28 @@
 -- The way back, line by line: what is read of a save's text is what was written.
 use Prim.Native.Nat.{ℕ, zero, suc, _+_, _*_, _<_, _≤_}
-use mathlib.Core.Path.{_≡_, refl, ap, _∙_}
+use mathlib.Core.Path.{_≡_, refl, sym, ap, _∙_}
 use mathlib.Core.Bool.{Bool, true, false, cond, _||_}
-use mathlib.Core.List.{List, _++_, append-assoc}
+use mathlib.Core.List.{List, [], _++_, append-nil, append-assoc}
 use mathlib.Core.Logic.{⊎-elim}
 use native.Mathlib.Nat.{not-suc-le-zero, le-of-suc-le-suc, eq-or-lt-of-le}
 use native.Mathlib.Omega.{arith}
 use borrow.Author.Tests.{lt-ltb, ltb-true, ltb-false, eq-eqb}
-use lib.Dec.{T, ltb, eqb, lit<, lit≤}
+use lib.Dec.{ltb, eqb, lit<, lit≤}
 use lib.ListN.{length, getD}
 use lib.Seq.{take-at, drop-at}
-use lib.Ieee.{Float, nan, binary64, fits, ofBits}
+use lib.Ieee.{Float, nan}
 use Rattle.lists.specs.Scan.{accepted}
 use Rattle.lists.proofs.ScanLaws.{row-holds, then-next}
-use Rattle.frames.specs.Frames.{Frame, wide, text, widthsOf, digitsOf, byteOf, fieldAt}
+use Rattle.frames.specs.Frames.{text, digitsOf}
 use Rattle.frames.specs.Reading.{value, fault}
-use Rattle.frames.proofs.BackLaws.{line-fine, field-back}
-use Rattle.frames.proofs.PatternLaws.{pattern-fits, float-back}
+use Rattle.frames.proofs.BackLaws.{line-fine, field-back, float-field}
 use Rattle.surge.specs.declared.Clock.{Clock}
-use Rattle.bounds.specs.State.{nodeOf}
-use Rattle.saves.specs.Lines.{head, stateValues, nodeLine, end, nodeLayout, endLayout, layoutAt, due, bits}
-use Rattle.saves.specs.Held.{HeldClock, HeldState}
+use Rattle.saves.specs.Lines.{head, stateValues, nodeLine, end, nodeLayout, endLayout, layoutAt, due}
+use Rattle.saves.specs.Storable.{StorableClock, StorableState}
 use Rattle.saves.specs.Save.{lineOf, linesTo, saveText}
-use Rattle.saves.specs.Load.{lineAt, float, row23, lineRows, clockOf, loadedNode}
+use Rattle.saves.specs.Load.{lineAt, row23, lineRows, clockOf, loadedNode, loadedState}
 use Rattle.saves.proofs.LineLaws.{line-long, lines-long}
+use Rattle.saves.proofs.NodeLaws.{nodeIn, loaded-all}
 
 module _ (n e : ℕ) (state : List Float) (k : Clock) where
   -- line j of the first m lines, whatever follows them
@@ -36,9 +35,9 @@ module _ (n e : ℕ) (state : List Float) (k : Clock) where
       here : j ≡ m → lineAt n (linesTo n e state k m ++ (text (lineOf n e state k m) ++ rest)) j ≡ text (lineOf n e state k j)
       here q = rw (q, drop-at _ _ _ (lines-long n e state k m), take-at _ _ _ (line-long n e state k m))
 
-  -- each line of a save's text is the line that was written, whatever follows the text
-  pub line-back : (rest : List ℕ) (j : ℕ) → j < n + 2 → lineAt n (saveText n e state k ++ rest) j ≡ text (lineOf n e state k j)
-  line-back rest j h = line-among (n + 2) j rest h
+  -- each line of a save's text is the line that was written
+  line-back : (j : ℕ) → j < n + 2 → lineAt n (saveText n e state k) j ≡ text (lineOf n e state k j)
+  line-back j h = rw append-nil at (line-among (n + 2) j [] h)
 
   module _ (few : n ≤ 4096) where
     -- rows 20, 21, 22 over the line that was written, and then 23
@@ -57,56 +56,48 @@ module _ (n e : ℕ) (state : List Float) (k : Clock) where
             ∙ line-fine (end n) (suc i) (lit< tt) (omega arith)
 
     module _ (few-triangles : e < 65536) where
-      head-same : row23 n e (text (head n e k)) 0 ≡ accepted
-      unfolding row23
-      head-same =
+      counts-same : (j : ℕ) → row23 n e (text (lineOf n e state k j)) j ≡ accepted
+      unfolding lineOf row23
+      counts-same zero =
           let its-n : value (text (head n e k)) 3 2 ≡ n = field-back (head n e k) 0 (lit< tt) (record { narrow = lit≤ tt; small = omega arith }) in
           let its-e : value (text (head n e k)) 5 2 ≡ e = field-back (head n e k) 1 (lit< tt) (record { narrow = lit≤ tt; small = few-triangles }) in
           row-holds 23 0 (rw (eq-eqb _ _ its-n, eq-eqb _ _ its-e))
-
-      counts-same : (j : ℕ) → j < n + 2 → row23 n e (text (lineOf n e state k j)) j ≡ accepted
-      unfolding lineOf row23
-      counts-same zero h = head-same
-      counts-same (suc i) h = row-holds 23 (suc i) (go (ltb i n) refl)
+      counts-same (suc i) = row-holds 23 (suc i) (go (ltb i n))
         where
-          go : (b : Bool) → ltb i n ≡ b → (b || eqb (value (text (cond b (nodeLine i (stateValues n state i)) (end n))) 3 2) n) ≡ true
-          go true q = refl
-          go false q = eq-eqb _ _ (field-back (end n) 0 (lit< tt) (record { narrow = lit≤ tt; small = omega arith }))
+          go : (b : Bool) → (b || eqb (value (text (cond b (nodeLine i (stateValues n state i)) (end n))) 3 2) n) ≡ true
+          go true = refl
+          go false = eq-eqb _ _ (field-back (end n) 0 (lit< tt) (record { narrow = lit≤ tt; small = omega arith }))
 
       -- no line of a save's text is refused by 20, 21, 22 or 23
-      pub lines-fine : (rest : List ℕ) (j : ℕ) → j < n + 2 → lineRows n e (saveText n e state k ++ rest) j ≡ accepted
+      pub lines-fine : (j : ℕ) → j < n + 2 → lineRows n e (saveText n e state k) j ≡ accepted
       unfolding lineRows
-      lines-fine rest j h = rw (line-back rest j h, fault-fine j h) (then-next accepted _ refl ∙ counts-same j h)
+      lines-fine j h = rw (line-back j h, fault-fine j h) (then-next accepted _ refl ∙ counts-same j)
 
--- ---- a run whose numbers a save's fields can hold
--- a float that is field j of a frame is read back
-float-field : (f : Frame) (j : ℕ) → j < length (f .fields) → (x : Float) → fieldAt (f .fields) j ≡ wide 8 (bits x) → T (fits binary64 x)
-    → float (text f) (byteOf (widthsOf (f .fields)) j) ≡ x
-float-field f j l x q h =
-    let back = field-back f j l (rw q (record { narrow = lit≤ tt; small = pattern-fits x h })) in
-    ap (ofBits binary64) (rw q at back) ∙ float-back x h
-
-module _ (e : ℕ) (state : List Float) (k : Clock) (rest : List ℕ) where
+  -- ---- a run whose numbers a save's fields can hold
   -- the clock that is read of a save's text is the one that was saved
-  pub clock-back : (n : ℕ) → HeldClock k → clockOf n (saveText n e state k ++ rest) ≡ k
+  pub clock-back : StorableClock k → clockOf n (saveText n e state k) ≡ k
   unfolding clockOf lineOf
-  clock-back n s =
+  clock-back s =
       let l = head n e k in
       let its-step : value (text l) 7 4 ≡ k .step = field-back l 2 (lit< tt) (record { narrow = lit≤ tt; small = s .step }) in
-      rw (line-back n e state k rest 0 (omega arith))
+      rw (line-back 0 (omega arith))
       (λ i. record { step = its-step i; wx = float-field l 3 (lit< tt) (k .wx) refl (s .wx) i; wy = float-field l 4 (lit< tt) (k .wy) refl (s .wy) i })
 
-  module _ (n : ℕ) (s : HeldState n state) (h : List Float) (q : length h ≡ n) (i : ℕ) (l : i < n) where
+  module _ (s : StorableState n state) (h : List Float) (q : length h ≡ n) where
     -- the values of node i that are read of a save's text are those that the state has there
-    pub node-back : loadedNode h (saveText n e state k ++ rest) i ≡ nodeOf h state i
+    pub node-back : (i : ℕ) → i < n → nodeIn n h state i ≡ loadedNode h (saveText n e state k) i
     unfolding loadedNode lineOf
-    node-back =
+    node-back i l =
         let f = nodeLine i (stateValues n state i) in
-        rw (q, line-back n e state k rest (suc i) (omega arith), lt-ltb i n l)
+        rw (q, line-back (suc i) (omega arith), lt-ltb i n l)
         (λ j. record {
           h = getD h i nan;
-          earlier = float-field f 0 (lit< tt) _ refl (s .values (0 * n + i) (omega arith)) j;
-          z = float-field f 1 (lit< tt) _ refl (s .values (1 * n + i) (omega arith)) j;
-          u = float-field f 2 (lit< tt) _ refl (s .values (2 * n + i) (omega arith)) j;
-          v = float-field f 3 (lit< tt) _ refl (s .values (3 * n + i) (omega arith)) j;
+          earlier = sym (float-field f 0 (lit< tt) _ refl (s .values (0 * n + i) (omega arith))) j;
+          z = sym (float-field f 1 (lit< tt) _ refl (s .values (1 * n + i) (omega arith))) j;
+          u = sym (float-field f 2 (lit< tt) _ refl (s .values (2 * n + i) (omega arith))) j;
+          v = sym (float-field f 3 (lit< tt) _ refl (s .values (3 * n + i) (omega arith))) j;
         })
+
+    -- and the state is the one that was saved
+    pub state-back : loadedState h (saveText n e state k) ≡ state
+    state-back = sym (loaded-all h (saveText n e state k) n q state (s .long) node-back)

@@ -1,12 +1,8 @@
-pub mod ForcingLaws
 pub mod LineLaws
 pub mod WriteLaws
 pub mod SaveLaws
-pub mod SpanLaws
-pub mod FillLaws
+pub mod NodeLaws
 pub mod LoadLaws
+pub mod StorableLaws
 pub mod BackLaws
 pub mod OwnLaws
-pub mod HeldLaws
-pub mod AgainLaws
-pub mod KeptLaws

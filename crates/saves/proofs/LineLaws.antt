@@ -14,29 +14,23 @@ use Rattle.surge.specs.declared.Clock.{Clock}
 use Rattle.saves.specs.Lines.{nodeLayout, endLayout, head, stateValues, nodeLine, end, due, startOf, saveLength}
 use Rattle.saves.specs.Save.{lineOf, linesTo}
 
+-- ---- which line is a node's, and which the last
+pub node-place : (n j : ℕ) → (j ≡ 0 → ⊥) → j ≤ n → (j ≡ suc (j - 1)) × (ltb (j - 1) n ≡ true)
+node-place n j h l = (omega arith, lt-ltb (j - 1) n (omega arith))
+
+pub last-place : (n j : ℕ) → n < j → (j ≡ suc (j - 1)) × (ltb (j - 1) n ≡ false)
+last-place n j l = (omega arith, le-ltb (j - 1) n (omega arith))
+
+-- ---- how long they are
 module _ (n e : ℕ) (state : List Float) (k : Clock) where
-  -- ---- which line is a node's, and which the last
-  pub line-node : (j : ℕ) → (j ≡ 0 → ⊥) → j ≤ n → lineOf n e state k j ≡ nodeLine (j - 1) (stateValues n state (j - 1))
-  unfolding lineOf
-  line-node zero h l = absurd (h refl)
-  line-node (suc i) h l =
-      let s : suc i - 1 ≡ i = omega arith in
-      rw (lt-ltb i n l, s)
-
-  pub line-last : (j : ℕ) → n < j → lineOf n e state k j ≡ end n
-  unfolding lineOf
-  line-last zero l = absurd (omega arith)
-  line-last (suc i) l = rw (le-ltb i n (omega arith))
-
-  -- ---- how long they are
   pub line-long : (j : ℕ) → length (text (lineOf n e state k j)) ≡ due n j + 1
   unfolding lineOf
   line-long zero = text-length (head n e k)
-  line-long (suc i) = go (ltb i n) refl
+  line-long (suc i) = go (ltb i n)
     where
-      go : (b : Bool) → ltb i n ≡ b → length (text (cond b (nodeLine i (stateValues n state i)) (end n))) ≡ digitsOf (cond b nodeLayout endLayout .widths) + 1
-      go true q = text-length (nodeLine i (stateValues n state i))
-      go false q = text-length (end n)
+      go : (b : Bool) → length (text (cond b (nodeLine i (stateValues n state i)) (end n))) ≡ digitsOf (cond b nodeLayout endLayout .widths) + 1
+      go true = text-length (nodeLine i (stateValues n state i))
+      go false = text-length (end n)
 
   pub lines-long : (j : ℕ) → length (linesTo n e state k j) ≡ startOf n j
   unfolding linesTo startOf
@@ -44,10 +38,13 @@ module _ (n e : ℕ) (state : List Float) (k : Clock) where
   lines-long (suc j) = length-append (linesTo n e state k j) (text (lineOf n e state k j)) ∙ rw (lines-long j, line-long j)
 
 -- ---- where each line starts
-pub start-node : (n i : ℕ) → i ≤ n → startOf n (suc i) ≡ 57 + 73 * i
+start-node : (n i : ℕ) → i ≤ n → startOf n (suc i) ≡ 57 + 73 * i
 unfolding startOf
 start-node n zero h = refl
 start-node n (suc i) h = rw (start-node n i (omega arith), lt-ltb i n (omega arith)) (omega arith)
+
+pub start-at : (n j : ℕ) → (j ≡ 0 → ⊥) → j ≤ n + 1 → startOf n j ≡ 57 + 73 * (j - 1)
+start-at n j h l = let q : j ≡ suc (j - 1) = omega arith in ap (startOf n) q ∙ start-node n (j - 1) (omega arith)
 
 start-last : (n : ℕ) → startOf n (suc (suc n)) ≡ saveLength n
 unfolding startOf

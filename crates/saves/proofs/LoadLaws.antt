@@ -1,53 +1,94 @@
--- The three outcomes of a load: refused by rows 1 to 9, refused by the text, and loaded.
-use Prim.Native.Nat.{ℕ, _*_, _≤_}
-use mathlib.Core.Path.{_≡_, sym, ap, _∙_}
-use mathlib.Core.Bool.{false}
+-- The outcomes of a load: refused, and loaded; and what an accepted load leaves passes rows 10 and 12.
+use Prim.Native.Nat.{ℕ, _*_, _<_}
+use mathlib.Core.Path.{_≡_, refl, ap, subst, _∙_}
+use mathlib.Core.Bool.{Bool, true, false}
 use mathlib.Core.List.{List}
-use native.Mathlib.Omega.{arith}
-use borrow.Author.Tests.{eqb-true, eq-eqb, ne-eqb}
+use borrow.Author.Tests.{eqb-true, eqb-false, eq-eqb, ne-eqb}
+use lib.Dec.{eqb}
 use lib.ListN.{length}
 use lib.Ieee.{Float}
 use Rattle.lists.specs.declared.rows.Answer.{Answer}
-use Rattle.lists.specs.Runs.{isRuns}
-use Rattle.lists.proofs.ScanLaws.{same-number, other-number, stops, goes}
+use Rattle.lists.proofs.ScanLaws.{row-passed, then-first, then-rest, scan-clean, same-number, other-number}
 use Rattle.equations.specs.declared.Parameters.{Parameters}
 use Rattle.surge.specs.declared.Clock.{Clock}
-use Rattle.mesh.specs.Lent.{Mesh, N, E}
-use Rattle.surge.specs.Lent.{after}
+use Rattle.mesh.specs.Lent.{Mesh, N}
+use Rattle.surge.specs.Lent.{After, after}
 use Rattle.mesh.specs.Rows.{rows1to9}
+use Rattle.limits.specs.Limits.{inBounds, row12Held}
+use Rattle.bounds.specs.State.{rows1to10}
+use Rattle.surge.specs.State.{windOf}
 use Rattle.mesh.proofs.AcceptedLaws.{accepted, accepted-rooms}
-use Rattle.saves.specs.Load.{clockOf, textRows, loadAnswer, loadedState, loadOf}
+use Rattle.surge.proofs.KeptLaws.{four-tables, four-long, in-bounds}
+use Rattle.saves.specs.Load.{clockOf, loadedNode, loadAnswer, loadedState, loadOf}
 
-module _ (m : Mesh) (p : Parameters) (t : List ℕ) (state : List Float) (k : Clock) where
-  refusal : (a : Answer) → a ≡ loadAnswer m p t state → (a .number ≡ 0 → ⊥) → after (record { answer = a; clock = k }) state ≡ loadOf m p t state k
-  unfolding loadOf
-  refusal a e h = rw (ne-eqb _ _ (other-number e h)) (ap (λ (b : Answer). after (record { answer = b; clock = k }) state) e)
+module _ (m : Mesh) (p : Parameters) (t : List ℕ) (state : List Float) where
+  -- the text's state and clock
+  abbrev pub tookText : After
+  tookText = after (record { answer = loadAnswer m p t state; clock = clockOf (N m) t }) (loadedState (m .h) t)
 
-  pub stopped : (a : Answer) → a ≡ rows1to9 (isRuns (length state) 4 (N m)) false m p → (a .number ≡ 0 → ⊥)
-      → after (record { answer = a; clock = k }) state ≡ loadOf m p t state k
-  unfolding loadAnswer
-  stopped a e h = refusal a (stops _ e h) h
+  module _ (k : Clock) where
+    -- state and clock as found
+    abbrev pub leftAsFound : After
+    leftAsFound = after (record { answer = loadAnswer m p t state; clock = k }) state
 
-  module _ (ok : rows1to9 (isRuns (length state) 4 (N m)) false m p .number ≡ 0) where
-    depths : length (m .h) ≡ N m
-    depths = accepted _ _ _ _ ok .sized .h
+    pub load-refused : {a : Answer} → a ≡ loadAnswer m p t state → (a .number ≡ 0 → ⊥) → after (record { answer = a; clock = k }) state ≡ loadOf m p t state k
+    unfolding loadOf
+    load-refused e h = rw (ne-eqb _ _ (other-number e h)) (ap (λ (b : Answer). after (record { answer = b; clock = k }) state) e)
 
-    pub few : length (m .h) ≤ 4096
-    few = omega (arith, depths, accepted _ _ _ _ ok .sized .most-nodes)
+    pub load-taken : {a : Answer} {c : Clock} {new : List Float} → a ≡ loadAnswer m p t state → a .number ≡ 0 → c ≡ clockOf (N m) t → new ≡ loadedState (m .h) t
+        → after (record { answer = a; clock = c }) new ≡ loadOf m p t state k
+    unfolding loadOf
+    load-taken e h ec en = rw (eq-eqb _ _ (same-number e h)) (λ i. after (record { answer = e i; clock = ec i }) (en i))
 
-    pub state-long : length state ≡ 4 * length (m .h)
-    state-long = eqb-true _ _ (accepted-rooms _ _ _ _ ok) ∙ ap (λ (n : ℕ). 4 * n) (sym depths)
+    -- what holds of each of the two outcomes, where it comes, holds of a load's
+    pub load-cases : (P : After → Type 0) → (loadAnswer m p t state .number ≡ 0 → P tookText)
+        → ((loadAnswer m p t state .number ≡ 0 → ⊥) → P leftAsFound) → P (loadOf m p t state k)
+    unfolding loadOf
+    load-cases P took stayed = go (eqb (loadAnswer m p t state .number) 0) refl
+      where
+        go : (b : Bool) → eqb (loadAnswer m p t state .number) 0 ≡ b → P (loadOf m p t state k)
+        go true q = rw q (took (eqb-true _ _ q))
+        go false q = rw q (stayed (eqb-false _ _ q))
 
-    module _ (a : Answer) (e : a ≡ textRows (length (m .h)) (E m) (m .h) t) where
-      its : a ≡ loadAnswer m p t state
-      unfolding loadAnswer
-      its = goes _ ok (e ∙ ap (λ (n : ℕ). textRows n (E m) (m .h) t) depths)
+    -- number 0: the rows accepted, and the text's state and clock came back
+    pub load-took : eqb (loadOf m p t state k .reply .answer .number) 0 ≡ true → (loadAnswer m p t state .number ≡ 0) × (loadOf m p t state k ≡ tookText)
+    load-took =
+        load-cases
+        (λ (o : After). loadOf m p t state k ≡ o → eqb (o .reply .answer .number) 0 ≡ true → (loadAnswer m p t state .number ≡ 0) × (loadOf m p t state k ≡ tookText))
+        (λ h q _. (h, q))
+        (λ h _ e. absurd (h (eqb-true _ _ e)))
+        refl
 
-      pub stopped-after : (a .number ≡ 0 → ⊥) → after (record { answer = a; clock = k }) state ≡ loadOf m p t state k
-      stopped-after h = refusal a its h
+    -- any other number: the state and the clock came back as they were
+    pub load-stayed : eqb (loadOf m p t state k .reply .answer .number) 0 ≡ false → loadOf m p t state k ≡ leftAsFound
+    load-stayed =
+        load-cases (λ (o : After). eqb (o .reply .answer .number) 0 ≡ false → o ≡ leftAsFound)
+        (λ h e. absurd (eqb-false _ _ e h))
+        (λ _ _. refl)
 
-      pub loaded : a .number ≡ 0 → {c : Clock} {new : List Float} → c ≡ clockOf (length (m .h)) t → new ≡ loadedState (m .h) t
-          → after (record { answer = a; clock = c }) new ≡ loadOf m p t state k
-      unfolding loadOf
-      loaded h ec en =
-          rw (eq-eqb _ _ (same-number its h)) (λ i. after (record { answer = its i; clock = (ec ∙ ap (λ (n : ℕ). clockOf n t) depths) i }) (en i))
+  -- ---- what an accepted load leaves
+  module _ (ok : loadAnswer m p t state .number ≡ 0) where
+    load-mesh : rows1to9 true false m p .number ≡ 0
+    unfolding loadAnswer
+    load-mesh =
+        let lent = then-first _ _ ok in
+        subst (λ (b : Bool). rows1to9 b false m p .number ≡ 0) (accepted-rooms _ _ _ _ lent) lent
+
+    pub load-depths : length (m .h) ≡ N m
+    load-depths = accepted _ _ _ _ load-mesh .sized .h
+
+    -- row 12 for the head's wind
+    pub loaded-wind : row12Held (windOf (clockOf (N m) t)) .number ≡ 0
+    unfolding loadAnswer
+    loaded-wind = then-first _ _ (then-rest _ _ (then-rest _ _ (then-rest _ _ ok)))
+
+    node-read : (i : ℕ) → i < N m → inBounds (loadedNode (m .h) t i) ≡ true
+    unfolding loadAnswer
+    node-read i l = row-passed _ 9 i (scan-clean _ _ (then-rest _ _ (then-rest _ _ (then-rest _ _ (then-rest _ _ ok)))) i l)
+
+    -- row 10 over the loaded values
+    pub loaded-rows : rows1to10 true m p (loadedState (m .h) t) .number ≡ 0
+    unfolding loadedState loadedNode
+    loaded-rows =
+        in-bounds m p (loadedState (m .h) t) load-mesh (four-long (length (m .h)) _ _ _ _ ∙ ap (λ (n : ℕ). 4 * n) load-depths)
+        (λ i l. rw (four-tables (m .h) _ _ _ _ i (rw load-depths l)) (node-read i l))

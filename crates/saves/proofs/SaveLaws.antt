@@ -1,14 +1,13 @@
--- The three outcomes of a save: refused by rows 1 to 10, refused by 12 or 24, and written.
+-- The outcomes of a save: refused, and written.
 use Prim.Native.Nat.{ℕ, _≤_}
-use mathlib.Core.Path.{_≡_, ap}
+use mathlib.Core.Path.{_≡_, ap, _∙_}
 use mathlib.Core.Bool.{true}
 use mathlib.Core.List.{List, _++_}
-use borrow.Author.Tests.{leb-true, eq-eqb, ne-eqb}
+use borrow.Author.Tests.{eq-eqb, ne-eqb, le-leb}
 use lib.ListN.{length, drop}
 use lib.Ieee.{Float}
 use Rattle.lists.specs.declared.rows.Answer.{Answer}
-use Rattle.lists.specs.Scan.{_then_}
-use Rattle.lists.proofs.ScanLaws.{row-passed, then-rest, same-number, other-number, stops, goes}
+use Rattle.lists.proofs.ScanLaws.{row-holds, then-next, same-number, other-number}
 use Rattle.equations.specs.declared.Parameters.{Parameters}
 use Rattle.surge.specs.declared.Clock.{Clock}
 use Rattle.mesh.specs.Lent.{Mesh, N, E}
@@ -19,28 +18,24 @@ use Rattle.saves.specs.Lines.{saveLength}
 use Rattle.saves.specs.Save.{saveText, row24, saveAnswer, saveOut, wrote, saveOf}
 
 module _ (m : Mesh) (p : Parameters) (state : List Float) (k : Clock) (t : List ℕ) where
-  refusal : (a : Answer) → a ≡ saveAnswer m p state k t → (a .number ≡ 0 → ⊥) → saveOut a t ≡ saveOf m p state k t
+  pub save-refused : {a : Answer} → a ≡ saveAnswer m p state k t → (a .number ≡ 0 → ⊥) → saveOut a t ≡ saveOf m p state k t
   unfolding saveOf
-  refusal a e h = rw (ne-eqb _ _ (other-number e h)) (ap (λ (b : Answer). saveOut b t) e)
+  save-refused e h = rw (ne-eqb _ _ (other-number e h)) (ap (λ (b : Answer). saveOut b t) e)
 
-  pub stopped : (a : Answer) → a ≡ rows1to10 true m p state → (a .number ≡ 0 → ⊥) → saveOut a t ≡ saveOf m p state k t
-  unfolding saveAnswer
-  stopped a e h = refusal a (stops _ e h) h
+  pub save-written : {a : Answer} {new : List ℕ} → a ≡ saveAnswer m p state k t → a .number ≡ 0
+      → new ≡ saveText (N m) (E m) state k ++ drop (saveLength (N m)) t → saveOut (wrote (saveLength (N m))) new ≡ saveOf m p state k t
+  unfolding saveOf
+  save-written e h en = rw (eq-eqb _ _ (same-number e h)) (ap (saveOut (wrote (saveLength (N m)))) en)
 
-  module _ (ok : rows1to10 true m p state .number ≡ 0) (a : Answer) (e : a ≡ (row12Held (windOf k) then row24 (N m) t)) where
-    its : a ≡ saveAnswer m p state k t
-    unfolding saveAnswer
-    its = goes _ ok e
+  -- a run that passes rows 10 and 12, and room enough
+  module _ (ok : rows1to10 true m p state .number ≡ 0) (held : row12Held (windOf k) .number ≡ 0) (l : saveLength (N m) ≤ length t) where
+    pub save-fine : saveAnswer m p state k t .number ≡ 0
+    unfolding saveAnswer row24
+    save-fine = ap (λ (a : Answer). a .number) (then-next _ _ ok ∙ then-next _ _ held ∙ row-holds 24 (saveLength (N m)) (le-leb _ _ l))
 
-    pub stopped-after : (a .number ≡ 0 → ⊥) → saveOut a t ≡ saveOf m p state k t
-    stopped-after h = refusal a its h
+    pub save-writes : saveOf m p state k t .answer ≡ wrote (saveLength (N m))
+    unfolding saveOf
+    save-writes = rw (eq-eqb _ _ save-fine)
 
-    module _ (h : a .number ≡ 0) where
-      pub roomy : saveLength (N m) ≤ length t
-      unfolding row24
-      roomy = leb-true _ _ (row-passed _ 23 _ (then-rest _ _ (same-number e h)))
-
-      pub saved : {b : Answer} {new : List ℕ} → b ≡ wrote (saveLength (N m)) → new ≡ saveText (N m) (E m) state k ++ drop (saveLength (N m)) t
-          → saveOut b new ≡ saveOf m p state k t
-      unfolding saveOf
-      saved eb en = rw (eq-eqb _ _ (same-number its h)) (λ i. saveOut (eb i) (en i))
+    pub save-accepts : saveOf m p state k t .answer .number ≡ 0
+    save-accepts = ap (λ (a : Answer). a .number) save-writes

@@ -1,5 +1,4 @@
 pub mod Lines
 pub mod Save
 pub mod Load
-pub mod Forcings
-pub mod Held
+pub mod Storable

@@ -1,22 +1,14 @@
--- Document 01, "Frames": the lines of a save and a forcing line, each as one description that writing and reading share.
+-- Document 01, "Frames": the lines of a save, each as one description that writing and reading share.
 use Prim.Native.Nat.{ℕ, zero, suc, _+_, _*_}
 use mathlib.Core.List.{List, [], _∷_}
 use mathlib.Core.Bool.{cond}
 use lib.Dec.{ltb}
-use lib.Ieee.{Float, binary64, toBits}
-use Rattle.frames.specs.Frames.{Field, Frame, wide, digitsOf}
+use lib.Ieee.{Float}
+use Rattle.frames.specs.Frames.{Frame, Layout, line, bits, digitsOf}
 use Rattle.surge.specs.declared.Clock.{Clock}
 use Rattle.lists.specs.Runs.{inRun}
 
--- "floats are their 8-byte patterns"
-abbrev pub bits : Float → ℕ
-bits x = toBits binary64 x
-
--- ---- the line kinds: the kind byte, and how many bytes each field has. Writing and reading share them
-pub record Layout : Type 0 where
-  pub kind : ℕ
-  pub widths : List ℕ
-
+-- ---- the line kinds
 -- "01 head, sequence 0: N (2), E (2), step (4), Wx, Wy. 56 digits."
 abbrev pub headLayout : Layout
 headLayout = record { kind = 1; widths = 2 ∷ 2 ∷ 4 ∷ 8 ∷ 8 ∷ [] }
@@ -29,20 +21,7 @@ nodeLayout = record { kind = 2; widths = 8 ∷ 8 ∷ 8 ∷ 8 ∷ [] }
 abbrev pub endLayout : Layout
 endLayout = record { kind = 3; widths = 2 ∷ [] }
 
--- "10 forcing, its own sequence from 0 to 65,535: elevation, Wx', Wy'. 56 digits."
-abbrev pub forcingLayout : Layout
-forcingLayout = record { kind = 16; widths = 8 ∷ 8 ∷ 8 ∷ [] }
-
--- the line of this layout with these values in its fields
-abbrev pub laidOut : List ℕ → List ℕ → List Field
-laidOut [] vs = []
-laidOut (w ∷ ws) [] = []
-laidOut (w ∷ ws) (v ∷ vs) = wide w v ∷ laidOut ws vs
-
-abbrev pub line : Layout → ℕ → List ℕ → Frame
-line l sequence values = record { kind = l .kind; sequence = sequence; fields = laidOut (l .widths) values }
-
--- ---- the lines of a save
+-- ---- the lines themselves
 -- "sequence 0"
 abbrev pub head : ℕ → ℕ → Clock → Frame
 head n e k = line headLayout 0 (n ∷ e ∷ k .step ∷ bits (k .wx) ∷ bits (k .wy) ∷ [])

@@ -5,7 +5,7 @@ use mathlib.Core.Bool.{false, cond, _&&_, _||_}
 use mathlib.Core.List.{List, [], _∷_}
 use lib.Dec.{eqb, leb, ltb}
 use lib.ListN.{length, getD, take, drop}
-use lib.Ieee.{Float, nan, binary64, ofBits}
+use lib.Ieee.{Float, nan}
 use Rattle.lists.specs.declared.rows.Answer.{Answer}
 use Rattle.lists.specs.Table.{table}
 use Rattle.lists.specs.Runs.{isRuns, room}
@@ -13,7 +13,7 @@ use Rattle.lists.specs.Scan.{row, _then_, scan}
 use Rattle.equations.specs.declared.Parameters.{Parameters}
 use Rattle.equations.specs.declared.Node.{Node}
 use Rattle.frames.specs.Frames.{byteOf}
-use Rattle.frames.specs.Reading.{value, fault}
+use Rattle.frames.specs.Reading.{value, float, fault}
 use Rattle.surge.specs.declared.Clock.{Clock}
 use Rattle.mesh.specs.Lent.{Mesh, N, E}
 use Rattle.surge.specs.Lent.{After, after}
@@ -25,10 +25,6 @@ use Rattle.saves.specs.Lines.{headLayout, nodeLayout, endLayout, layoutA
 -- line j of a text, as much of it as there is: "a missing line being of wrong length"
 abbrev pub lineAt : ℕ → List ℕ → ℕ → List ℕ
 lineAt n t j = take (due n j + 1) (drop (startOf n j) t)
-
--- "floats are their 8-byte patterns": the float of the 8 bytes at a frame byte. Every NaN pattern is read as NaN, of which there is one
-abbrev pub float : List ℕ → ℕ → Float
-float line at = ofBits binary64 (value line at 8)
 
 -- | 23 | N or E differs | line |: at the head for N or E, at the end line for N
 unfoldable pub row23 : ℕ → ℕ → List ℕ → ℕ → Answer

@@ -1,71 +1,19 @@
-// Saves, loads and forcing lines.
+// Saves and loads.
+pub(crate) mod clocks;
 pub(crate) mod loading;
 pub(crate) mod writing;
 
-use equations::Forcing;
 use equations::Parameters;
-use equations::Wind;
-use frames::patterns;
-use frames::reading;
 use lists::rows;
 use lists::rows::Answer;
 use lists::slices;
 use surge::Clock;
 use surge::Reply;
 ghost use mathlib.Core.Path.{_≡_};
-ghost use Rattle.limits.specs.Limits.{row12Held};
 ghost use Rattle.mesh.specs.Lent.{mesh};
 ghost use Rattle.surge.specs.Lent.{after};
-ghost use Rattle.surge.specs.State.{windOf};
 ghost use Rattle.saves.specs.Save.{saveOut, saveOf};
-ghost use Rattle.saves.specs.Forcings.{takenOf};
-ghost use Rattle.saves.specs.Load.{float, loadOf};
-
-// What reading a forcing line hands back.
-pub struct Taken {
-    pub answer: Answer,
-    pub forcing: Forcing,
-}
-
-// The float of the 8 bytes that start at a frame byte of a line.
-pub(crate) fn float_at(line: &[u8], at: usize) -> f64
-    ensures { λ r. ⌜ r ≡ float (now (line .entry)) at ⌝ }
-{
-    patterns::float_of(reading::value(line, at, 8))
-}
-
-// Reads one forcing line against the sequence number that is expected, which may be one that no line has.
-pub fn read_forcing(line: &[u8], expected: u32) -> Taken
-    ensures { λ r. ⌜ r ≡ takenOf (now (line .entry)) expected ⌝ }
-{
-    let answer = reading::fault(line, 56, 16, expected as u64, 0);
-    if answer.number != 0 {
-        return Taken {
-            answer,
-            forcing: Forcing {
-                elevation: 0.0,
-                wx: 0.0,
-                wy: 0.0,
-            },
-        };
-    }
-    let forcing = Forcing {
-        elevation: float_at(line, 3),
-        wx: float_at(line, 11),
-        wy: float_at(line, 19),
-    };
-    Taken { answer, forcing }
-}
-
-// Row 12 of the wind that a clock holds.
-pub(crate) fn held_wind(clock: Clock) -> Answer
-    ensures { λ r. ⌜ r ≡ row12Held (windOf clock) ⌝ }
-{
-    limits::held_wind(Wind {
-        x: clock.wx,
-        y: clock.wy,
-    })
-}
+ghost use Rattle.saves.specs.Load.{loadOf};
 
 // Saves a run: rows 1 to 10, the held wind, the text room; then head, nodes and end. The place of an accepted answer is the bytes written.
 pub fn save(
@@ -88,7 +36,7 @@ pub fn save(
     let n = x.len();
     let room = 70 + 73 * n;
     let fits = rows::tested(room <= text.len(), 24, room);
-    let rest = rows::first(held_wind(clock), fits);
+    let rest = rows::first(clocks::held_wind(clock), fits);
     if rest.number != 0 {
         return rest;
     }

@@ -1,6 +1,5 @@
 // The lines of a save, read back: the rows of a load, the clock and the state that the lines hold.
-use super::float_at;
-use super::held_wind;
+use crate::clocks;
 use equations::Node;
 use frames::patterns;
 use frames::reading;
@@ -8,17 +7,11 @@ use lists::rows;
 use lists::rows::Answer;
 use surge::Clock;
 ghost use mathlib.Core.Path.{_≡_};
-ghost use Prim.Native.Nat.{_+_, _-_, _*_, _<_, _≤_};
+ghost use Prim.Native.Nat.{_+_, _*_, _<_, _≤_};
 ghost use lib.ListN.{length, take, drop, set};
 ghost use Rattle.lists.specs.Scan.{scan};
-ghost use Rattle.saves.specs.Lines.{layoutAt, due, startOf};
+ghost use Rattle.saves.specs.Lines.{layoutAt, due};
 ghost use Rattle.saves.specs.Load.{lineAt, row23, lineRows, clockOf, loadedNode, row10Read, textRows, loadedState};
-
-// Where a line stands in a text.
-struct Span {
-    from: usize,
-    to: usize,
-}
 
 // A kind of line: its digits and its kind byte.
 struct LineKind {
@@ -28,7 +21,7 @@ struct LineKind {
 
 // What is due at line j: head, nodes, end.
 fn due(n: usize, j: usize) -> LineKind
-    ensures { λ r. ⌜ (r .digits ≡ due n j) × (r .kind ≡ layoutAt n j .kind) ⌝ }
+    ensures { λ r. ⌜ (r .digits ≡ due n j) × (r .kind ≡ layoutAt n j .kind) × (r .digits ≤ 72) ⌝ }
 {
     if j == 0 {
         return LineKind {
@@ -49,35 +42,31 @@ fn due(n: usize, j: usize) -> LineKind
     }
 }
 
-// Where line j starts: past a head of 57 bytes and nodes of 73.
-fn start(n: usize, j: usize) -> usize
-    requires { ⌜ (n ≤ 4096) × (j ≤ n + 1) ⌝ }
-    ensures { λ r. ⌜ r ≡ startOf n j ⌝ }
+// `count` bytes of a text from `from` on, as many as there are.
+fn part(text: &[u8], from: usize, count: usize) -> &[u8]
+    ensures { λ r. ⌜ now r ≡ take count (drop from (now (text .entry))) ⌝ }
 {
-    if j == 0 {
-        return 0;
+    if text.len() < from {
+        return &text[0..0];
     }
-    57 + 73 * (j - 1)
+    if text.len() - from < count {
+        return &text[from..];
+    }
+    let to = from + count;
+    &text[from..to]
 }
 
-// A line that the text breaks off is as much of it as there is, which is of wrong length.
-fn standing(n: usize, text: &[u8], j: usize) -> Span
+// Line j, past a head of 57 bytes and nodes of 73. One that the text breaks off is as much of it as there is, which is of wrong length.
+fn line_at(n: usize, text: &[u8], j: usize) -> &[u8]
     requires { ⌜ (n ≤ 4096) × (j ≤ n + 1) ⌝ }
-    ensures { λ r. ⌜ (r .from ≤ r .to) × (r .to ≤ length (now (text .entry))) × (take (r .to - r .from) (drop (r .from) (now (text .entry))) ≡ lineAt n (now (text .entry)) j) ⌝ }
+    ensures { λ r. ⌜ now r ≡ lineAt n (now (text .entry)) j ⌝ }
 {
-    let long = text.len();
-    let from = start(n, j);
-    let to = from + (due(n, j).digits + 1);
-    if long < from {
-        return Span {
-            from: long,
-            to: long,
-        };
+    if j == 0 {
+        return part(text, 0, 57);
     }
-    if long < to {
-        return Span { from, to: long };
-    }
-    Span { from, to }
+    let from = 57 + 73 * (j - 1);
+    let count = due(n, j).digits + 1;
+    part(text, from, count)
 }
 
 // Row 23 of line j: N and E at the head, nothing at a node's line, N at the end line.
@@ -100,10 +89,7 @@ fn line_row(n: usize, e: usize, text: &[u8], j: usize) -> Answer
     requires { ⌜ (n ≤ 4096) × (j ≤ n + 1) ⌝ }
     ensures { λ r. ⌜ r ≡ lineRows n e (now (text .entry)) j ⌝ }
 {
-    let at = standing(n, text, j);
-    let from = at.from;
-    let to = at.to;
-    let line = &text[from..to];
+    let line = line_at(n, text, j);
     let its = due(n, j);
     let fault = reading::fault(line, its.digits, its.kind, j as u64, j);
     rows::first(fault, counts(n, e, line, j))
@@ -129,14 +115,11 @@ pub(crate) fn clock_of(n: usize, text: &[u8]) -> Clock
     requires { ⌜ n ≤ 4096 ⌝ }
     ensures { λ r. ⌜ r ≡ clockOf n (now (text .entry)) ⌝ }
 {
-    let at = standing(n, text, 0);
-    let from = at.from;
-    let to = at.to;
-    let head = &text[from..to];
+    let head = line_at(n, text, 0);
     Clock {
         step: reading::value(head, 7, 4) as u32,
-        wx: float_at(head, 11),
-        wy: float_at(head, 19),
+        wx: reading::float_at(head, 11),
+        wy: reading::float_at(head, 19),
     }
 }
 
@@ -145,10 +128,7 @@ fn node_at(h: &[f64], text: &[u8], i: usize) -> Node
     requires { ⌜ (i < length (now h)) × (length (now h) ≤ 4096) ⌝ }
     ensures { λ r. ⌜ r ≡ loadedNode (now (h .entry)) (now (text .entry)) i ⌝ }
 {
-    let at = standing(h.len(), text, i + 1);
-    let from = at.from;
-    let to = at.to;
-    let values = reading::values(&text[from..to]);
+    let values = reading::values(line_at(h.len(), text, i + 1));
     Node {
         h: h[i],
         earlier: patterns::float_of(values[0]),
@@ -158,21 +138,13 @@ fn node_at(h: &[f64], text: &[u8], i: usize) -> Node
     }
 }
 
-// Row 10 of one loaded node.
-fn bound(h: &[f64], text: &[u8], i: usize) -> Answer
-    requires { ⌜ (i < length (now h)) × (length (now h) ≤ 4096) ⌝ }
-    ensures { λ r. ⌜ r ≡ row10Read (now (h .entry)) (now (text .entry)) i ⌝ }
-{
-    rows::tested(limits::in_bounds(node_at(h, text, i)), 10, i)
-}
-
 // Row 10: the first loaded node that is out of its bounds.
 fn bounds(h: &[f64], text: &[u8]) -> Answer
     requires { ⌜ length (now h) ≤ 4096 ⌝ }
     ensures { λ r. ⌜ r ≡ scan (row10Read (now (h .entry)) (now (text .entry))) (length (now (h .entry))) ⌝ }
 {
     for i in 0..h.len() {
-        let answer = bound(h, text, i);
+        let answer = rows::tested(limits::in_bounds(node_at(h, text, i)), 10, i);
         if answer.number != 0 {
             return answer;
         }
@@ -188,7 +160,7 @@ pub(crate) fn text_rows(e: usize, h: &[f64], text: &[u8]) -> Answer
     let n = h.len();
     let read = lines(n, e, text);
     let over = rows::tested(text.len() <= 70 + 73 * n, 20, n + 2);
-    let wind = held_wind(clock_of(n, text));
+    let wind = clocks::held_wind(clock_of(n, text));
     let values = bounds(h, text);
     rows::first(read, rows::first(over, rows::first(wind, values)))
 }
@@ -196,10 +168,10 @@ pub(crate) fn text_rows(e: usize, h: &[f64], text: &[u8]) -> Answer
 // Node i's values into the four runs.
 fn put_node(state: &mut [f64], n: usize, i: usize, c: Node)
     requires { ⌜ (i < n) × (length (now state) ≡ 4 * n) ⌝ }
-    ensures { λ _. ⌜ now (state .exit) ≡ set (set (set (set (now (state .entry)) i (c .earlier)) (n + i) (c .z)) (2 * n + i) (c .u)) (3 * n + i) (c .v) ⌝ }
+    ensures { λ _. ⌜ now (state .exit) ≡ set (set (set (set (now (state .entry)) (0 * n + i) (c .earlier)) (1 * n + i) (c .z)) (2 * n + i) (c .u)) (3 * n + i) (c .v) ⌝ }
 {
-    state[i] = c.earlier;
-    state[n + i] = c.z;
+    state[0 * n + i] = c.earlier;
+    state[1 * n + i] = c.z;
     state[2 * n + i] = c.u;
     state[3 * n + i] = c.v;
 }

@@ -26,8 +26,8 @@ fn node_line(i: usize, n: usize, state: &[f64]) -> Line
     ensures { λ r. ⌜ r ≡ holding (text (nodeLine i (stateValues n (now (state .entry)) i))) ⌝ }
 {
     let begun = Line::begin(2, i as u64 + 1);
-    let earlier = begun.append(8, patterns::pattern_of(state[i]));
-    let z = earlier.append(8, patterns::pattern_of(state[n + i]));
+    let earlier = begun.append(8, patterns::pattern_of(state[0 * n + i]));
+    let z = earlier.append(8, patterns::pattern_of(state[1 * n + i]));
     let u = z.append(8, patterns::pattern_of(state[2 * n + i]));
     u.append(8, patterns::pattern_of(state[3 * n + i])).seal()
 }

@@ -15,7 +15,7 @@ use Rattle.lists.specs.Scan.{accepted, refused}
 use Rattle.surge.specs.Lent.{After}
 use Rattle.surge.specs.Open.{openOf}
 use Rattle.surge.specs.Step.{Held, StepOut, given, stepOf, stepOut}
-use Rattle.saves.specs.Lines.{bits}
+use Rattle.frames.specs.Frames.{bits}
 use Rattle.saves.specs.Save.{saveOf, wrote}
 use Rattle.saves.specs.Load.{loadOf}
 use Rattle.history.specs.History.{Written, Call, step, save, load, Saved, History, begun, latest, after, AllOwn, along}

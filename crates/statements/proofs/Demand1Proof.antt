@@ -14,11 +14,11 @@ use Rattle.surge.specs.Step.{Given, seaOf, refusedBefore, refusedBy13, wentOn, 
 use Rattle.passes.specs.Settle.{Rooms, roomy}
 use Rattle.saves.specs.Save.{saveOf}
 use Rattle.saves.specs.Load.{loadOf}
-use Rattle.saves.specs.Forcings.{takenOf}
+use Rattle.forcings.specs.Forcings.{takenOf}
 use Rattle.statements.specs.Demand1.{Accepts, Refuses, OpenSays, StepSays, SaveSays, LoadSays, ForcingSays, OpenKeepsDemand1, StepKeepsDemand1, SaveKeepsDemand1, LoadKeepsDemand1, ForcingKeepsDemand1}
 use Rattle.surge.proofs.NumberLaws.{before-13, only-13}
 use Rattle.surge.proofs.KeptLaws.{early, late, step-cases}
-use Rattle.saves.proofs.KeptLaws.{load-cases}
+use Rattle.saves.proofs.LoadLaws.{load-cases}
 
 open-says : (m : Mesh) (p : Parameters) (state : List Float) → OpenSays m p state (openOf m p state)
 unfolding openOf

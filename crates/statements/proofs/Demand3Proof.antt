@@ -18,11 +18,11 @@ use Rattle.passes.specs.Settle.{Rooms}
 use Rattle.mesh.proofs.AcceptedLaws.{accepted}
 use Rattle.surge.proofs.StepLaws.{not-last}
 use Rattle.surge.proofs.KeptLaws.{went-on, stayed, step-mesh, next-rows, next-wind, cold-rows, cold-wind, opened-mesh}
-use Rattle.saves.specs.Load.{loadedState}
-use Rattle.saves.specs.Held.{HeldState, HeldClock}
+use Rattle.saves.specs.Storable.{StorableState, StorableClock}
 use Rattle.saves.proofs.OwnLaws.{saved-loaded}
-use Rattle.saves.proofs.HeldLaws.{clock-held, state-held, cold-clock-held, cold-state-held, next-state-held, next-clock-held}
-use Rattle.saves.proofs.KeptLaws.{save-accepts, load-took, load-stayed, load-depths, loaded-rows, loaded-wind}
+use Rattle.saves.proofs.StorableLaws.{clock-storable, state-storable, cold-clock-storable, cold-state-storable, next-state-storable, next-clock-storable}
+use Rattle.saves.proofs.SaveLaws.{save-accepts}
+use Rattle.saves.proofs.LoadLaws.{load-took, load-stayed, load-depths, loaded-rows, loaded-wind}
 use Rattle.history.specs.History.{Call, history, Laws}
 use Rattle.history.proofs.Demand3.{demand3, held-good}
 use Rattle.statements.specs.Demand3.{Weather, accepts, run, coldRun, stepped, saved, loaded, surge, Demand3AtSurge, OpensCold, OwnSavesLoad, HeldRunsSave}
@@ -30,13 +30,13 @@ use Rattle.statements.specs.Demand3.{Weather, accepts, run, coldRun, ste
 module _ (m : Mesh) (p : Parameters) where
   -- a run that these calls can hold: four runs of N binary64, a clock that a head can hold, and rows 10 and 12 pass (10 where the mesh passes 1 to 9)
   record Good (r : Held) : Type 0 where
-    state : HeldState (N m) (r .state)
-    clock : HeldClock (r .clock)
+    state : StorableState (N m) (r .state)
+    clock : StorableClock (r .clock)
     bounds : rows1to9 true false m p .number ≡ 0 → rows1to10 true m p (r .state) .number ≡ 0
     wind : row12Held (windOf (r .clock)) .number ≡ 0
 
   good-cold : Good (coldRun m)
-  good-cold = record { state = cold-state-held (N m); clock = cold-clock-held; bounds = cold-rows m p; wind = cold-wind }
+  good-cold = record { state = cold-state-storable (N m); clock = cold-clock-storable; bounds = cold-rows m p; wind = cold-wind }
 
   -- ---- a step
   module _ (r : Held) (f : Weather) (rooms : Rooms) where
@@ -48,8 +48,8 @@ module _ (m : Mesh) (p : Parameters) where
         let w = went-on its rooms e in (
           rw e (ap (λ (o : StepOut). run (o .rooms .next) (o .reply .clock)) (w .out)),
           record {
-            state = next-state-held its (f .elevation) (accepted _ _ _ _ (step-mesh its _ (w .first) (w .last)) .sized .h) (g .state);
-            clock = next-clock-held its (f .elevation) (f .wx) (f .wy) (not-last its rooms (w .first)) (g .clock);
+            state = next-state-storable its (f .elevation) (accepted _ _ _ _ (step-mesh its _ (w .first) (w .last)) .sized .h) (g .state);
+            clock = next-clock-storable its (f .elevation) (f .wx) (f .wy) (not-last its rooms (w .first)) (g .clock);
             bounds = λ _. next-rows its _ (w .first) (w .last);
             wind = next-wind its _ (w .first) (w .last);
           },
@@ -67,8 +67,8 @@ module _ (m : Mesh) (p : Parameters) where
       let (ok, out) = load-took m p t (r .state) (r .clock) e in
       subst Good (sym (ap left out))
       (record {
-        state = subst (λ (n : ℕ). HeldState n (loadedState (m .h) t)) (load-depths m p t (r .state) ok) (state-held (m .h) t);
-        clock = clock-held (N m) t;
+        state = state-storable (m .h) t (N m) (load-depths m p t (r .state) ok);
+        clock = clock-storable (N m) t;
         bounds = λ _. loaded-rows m p t (r .state) ok;
         wind = loaded-wind m p t (r .state) ok;
       })

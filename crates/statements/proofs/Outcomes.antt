@@ -6,7 +6,7 @@ use Rattle.frames.specs.Building.{Put, putOut}
 use Rattle.surge.specs.Lent.{After, after}
 use Rattle.surge.specs.Step.{StepOut, stepOut}
 use Rattle.saves.specs.Save.{SaveOut, saveOut}
-use Rattle.saves.specs.declared.Taken.{Taken}
+use Rattle.forcings.specs.declared.Taken.{Taken}
 use Rattle.capi.specs.Numbers.{clock, forcing, answer, reply, taken}
 use Rattle.statements.specs.Determined.{Determined}
 use Rattle.lists.proofs.rows.accept.Kinds as accept-kinds
@@ -69,6 +69,8 @@ use Rattle.frames.proofs.lines.Line.seal.Kinds as seal-kinds
 use Rattle.frames.proofs.lines.Line.seal.Reads as seal-reads
 use Rattle.frames.proofs.reading.value.Kinds as value-kinds
 use Rattle.frames.proofs.reading.value.Reads as value-reads
+use Rattle.frames.proofs.reading.float_at.Kinds as float-at-kinds
+use Rattle.frames.proofs.reading.float_at.Reads as float-at-reads
 use Rattle.frames.proofs.reading.values.Kinds as values-kinds
 use Rattle.frames.proofs.reading.values.Reads as values-reads
 use Rattle.frames.proofs.reading.fault.Kinds as fault-kinds
@@ -79,8 +81,8 @@ use Rattle.lists.proofs.slices.clear_whole.Kinds as clear-whole-kinds
 use Rattle.lists.proofs.slices.clear_whole.Reads as clear-whole-reads
 use Rattle.bounds.proofs.rows_to_10.Kinds as rows-to-10-kinds
 use Rattle.bounds.proofs.rows_to_10.Reads as rows-to-10-reads
-use Rattle.saves.proofs.read_forcing.Kinds as read-forcing-kinds
-use Rattle.saves.proofs.read_forcing.Reads as read-forcing-reads
+use Rattle.forcings.proofs.read_forcing.Kinds as read-forcing-kinds
+use Rattle.forcings.proofs.read_forcing.Reads as read-forcing-reads
 use Rattle.saves.proofs.save.Kinds as save-kinds
 use Rattle.saves.proofs.save.Reads as save-reads
 use Rattle.mesh.proofs.check.Kinds as check-kinds
@@ -193,6 +195,9 @@ seal-determined κs a x y v w p q = (same p q, refl)
 
 pub value-determined : Determined value-kinds.ps value-kinds.r value-reads.Post
 value-determined κs a x y v w p q = (same p q, refl)
+
+pub float-at-determined : Determined float-at-kinds.ps float-at-kinds.r float-at-reads.Post
+float-at-determined κs a x y v w p q = (same p q, refl)
 
 pub values-determined : Determined values-kinds.ps values-kinds.r values-reads.Post
 values-determined κs a x y v w p q = (same p q, refl)

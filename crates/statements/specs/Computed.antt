@@ -14,7 +14,7 @@ use Rattle.lists.specs.Scan.{accepted, refused}
 use Rattle.lists.specs.Numbers.{decimal}
 use Rattle.surge.specs.Open.{openOf}
 use Rattle.surge.specs.Step.{Held, given, stepOf}
-use Rattle.saves.specs.Lines.{bits}
+use Rattle.frames.specs.Frames.{bits}
 use Rattle.saves.specs.Save.{wrote, saveOf}
 use Rattle.saves.specs.Load.{loadOf}
 use Rattle.history.specs.History.{Calls, Call, step, save, load, History, begun, after, history, AllOwn, along}

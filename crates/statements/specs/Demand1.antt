@@ -19,11 +19,11 @@ use Rattle.surge.specs.Open.{openAnswer}
 use Rattle.surge.specs.Step.{Given, given, seaOf, before13, StepOut, stepOut}
 use Rattle.passes.specs.Row13.{row13}
 use Rattle.passes.specs.Settle.{Rooms, lentRooms, roomy}
-use Rattle.saves.specs.declared.Taken.{Taken}
+use Rattle.forcings.specs.declared.Taken.{Taken}
 use Rattle.saves.specs.Lines.{saveLength}
 use Rattle.saves.specs.Save.{saveText, saveAnswer, SaveOut, saveOut, wrote}
 use Rattle.saves.specs.Load.{loadAnswer}
-use Rattle.saves.specs.Forcings.{still, forcingAnswer}
+use Rattle.forcings.specs.Forcings.{still, forcingAnswer}
 use Rattle.surge.proofs.open.Kinds as open-kinds
 use Rattle.surge.proofs.open.Reads as open-reads
 use Rattle.surge.proofs.step.Kinds as step-kinds
@@ -32,8 +32,8 @@ use Rattle.saves.proofs.save.Kinds as save-kinds
 use Rattle.saves.proofs.save.Reads as save-reads
 use Rattle.saves.proofs.load.Kinds as load-kinds
 use Rattle.saves.proofs.load.Reads as load-reads
-use Rattle.saves.proofs.read_forcing.Kinds as read-forcing-kinds
-use Rattle.saves.proofs.read_forcing.Reads as read-forcing-reads
+use Rattle.forcings.proofs.read_forcing.Kinds as read-forcing-kinds
+use Rattle.forcings.proofs.read_forcing.Reads as read-forcing-reads
 
 abbrev pub Accepts : Answer → Type 0
 Accepts a = a .number ≡ 0

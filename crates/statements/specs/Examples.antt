@@ -22,7 +22,7 @@ use Rattle.passes.specs.Settle.{Rooms, lentRooms}
 use Rattle.saves.specs.Lines.{head, end}
 use Rattle.saves.specs.Save.{linesTo, saveText}
 use Rattle.saves.specs.Load.{loadAnswer}
-use Rattle.saves.specs.Forcings.{still}
+use Rattle.forcings.specs.Forcings.{still}
 use Rattle.forcelog.specs.Empty.{headWith, endWith}
 
 -- what an example speaks of: the a, b and D of a triangle, the whole answer of a call (number, place and value), a count, an answer with the

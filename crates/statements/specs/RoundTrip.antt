@@ -1,5 +1,5 @@
 -- The round trip: a save and a load give back the run, bit by bit. Two floats are the same here where they have the same pattern (+0 is not -0, and all
--- NaN are one); HeldState and HeldClock say of a run that its numbers are binary64 and its step number a u32, as every f64 and u32 of a program is.
+-- NaN are one); StorableState and StorableClock say of a run that its numbers are binary64 and its step number a u32, as every f64 and u32 of a program is.
 use Prim.Native.Nat.{ℕ, _*_, _≤_}
 use mathlib.Core.Path.{_≡_}
 use mathlib.Core.List.{List}
@@ -13,7 +13,7 @@ use Rattle.surge.specs.Lent.{After, after}
 use Rattle.saves.specs.Lines.{saveLength}
 use Rattle.saves.specs.Save.{SaveOut, saveText, saveOf, wrote}
 use Rattle.saves.specs.Load.{loadOf}
-use Rattle.saves.specs.Held.{HeldState, HeldClock}
+use Rattle.saves.specs.Storable.{StorableState, StorableClock}
 use Rattle.statements.specs.Demand1.{Accepts}
 
 -- the text that a save wrote: as many bytes as its place says
@@ -28,14 +28,14 @@ gives state k = after (record { answer = accepted; clock = k }) state
 abbrev pub SavedIsLoaded : Type 0
 SavedIsLoaded =
     (m : Mesh) (p : Parameters) (state : List Float) (k : Clock) (room : List ℕ) (old : List Float) (other : Clock) →
-    HeldState (N m) state → HeldClock k → length old ≡ 4 * N m → Accepts (saveOf m p state k room .answer) →
+    StorableState (N m) state → StorableClock k → length old ≡ 4 * N m → Accepts (saveOf m p state k room .answer) →
     loadOf m p (written (saveOf m p state k room)) old other ≡ gives state k
 
 -- Two runs on meshes of N nodes and E triangles that have the same text are the same run: a save leaves nothing out.
 abbrev pub SameTextSameRun : Type 0
 SameTextSameRun =
     (n e : ℕ) (state₁ state₂ : List Float) (k₁ k₂ : Clock) →
-    HeldState n state₁ → HeldState n state₂ → HeldClock k₁ → HeldClock k₂ →
+    StorableState n state₁ → StorableState n state₂ → StorableClock k₁ → StorableClock k₂ →
     saveText n e state₁ k₁ ≡ saveText n e state₂ k₂ → (state₁ ≡ state₂) × (k₁ ≡ k₂)
 
 -- Whatever an accepted load gives, whoever wrote its text, is saved into any room of 70+73N or more, and loaded again.

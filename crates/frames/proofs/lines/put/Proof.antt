@@ -4,9 +4,9 @@ use mathlib.Core.Logic.{⊎-elim}
 use native.Mathlib.Numerals.{add-one}
 use native.Mathlib.Omega.{arith}
 use borrow.Author.Needs.{needs}
-use lib.ListN.{length, take, length-set}
-use lib.Seq.{paste, paste-zero, paste-suc, take-all, length-take-le}
-use Rattle.frames.specs.Building.{room, written, laid}
+use lib.ListN.{length, take}
+use lib.Seq.{paste, paste-zero, paste-suc, length-paste, take-all}
+use Rattle.frames.specs.Building.{longest, written}
 use Rattle.frames.proofs.BuildLaws.{put-fits, put-not}
 use Rattle.frames.proofs.lines.put.Statement.{statement}
 use Rattle.frames.proofs.lines.put.Tie as tie
@@ -19,14 +19,14 @@ abbrev μ-loop : tie.MeasureT-loop
 
 -- n bytes of the line are written, all of them where its length is past its room
 some : (c : tie.Joined1 Inv-loop μ-loop)
-    → let l = c .before .args .line in
-    (written l ≡ take (c .if1 .n) (l .bytes)) × (length (l .bytes) ≡ room) × (c .if1 .n ≤ room)
+    → let l = c .before .args .t3 in
+    (written l ≡ take (c .if1 .n) (l .bytes)) × (c .if1 .n ≤ length (l .bytes)) × (c .if1 .n ≤ longest)
 unfolding written
 some c =
-    let l = c .before .args .line in
-    let z : length (l .bytes) ≡ room = search needs in
-    ⊎-elim (λ w. (rw (w .1), z, omega arith))
-    (λ w. (rw (w .1) (take-all (l .len) (l .bytes) (omega arith) ∙ sym (take-all room (l .bytes) (omega arith))), z, omega arith)) (c .if1 .came)
+    let l = c .before .args .t3 in
+    let z : length (l .bytes) ≡ longest = search needs in
+    ⊎-elim (λ w. (rw (w .1), omega arith, omega arith))
+    (λ w. (rw (w .1) (take-all (l .len) (l .bytes) (omega arith) ∙ sym (take-all longest (l .bytes) (omega arith))), omega arith, omega arith)) (c .if1 .came)
 
 long : (c : tie.Joined1 Inv-loop μ-loop) → length (take (c .if1 .n) (c .before .args .line .bytes)) ≡ c .if1 .n
 long c = length-take-le _ _ (omega (arith, some c))

@@ -4,30 +4,31 @@ use native.Mathlib.Omega.{arith}
 use borrow.Author.Count.{below-none, below-more}
 use borrow.Author.Needs.{needs}
 use Rattle.lists.proofs.ScanLaws.{scan-none, scan-hit, same-number, other-number}
-use Rattle.lists.specs.Scan.{row}
-use Rattle.limits.specs.Limits.{inBounds}
-use Rattle.saves.specs.Load.{loadedNode}
+use Rattle.saves.specs.Load.{row10Read}
 use Rattle.saves.proofs.loading.bounds.Statement.{statement}
 use Rattle.saves.proofs.loading.bounds.Tie as tie
 
 -- no node passed so far refuses
 abbrev Inv-loop : tie.InvT-loop
-Inv-loop h text i₀ i-end i = (i ≤ i-end) × ((k : ℕ) → k < i → row (inBounds (loadedNode h text k)) 10 k .number ≡ 0)
+Inv-loop h text i₀ i-end i = (i ≤ i-end) × ((k : ℕ) → k < i → row10Read h text k .number ≡ 0)
 
 abbrev μ-loop : tie.MeasureT-loop
 μ-loop h text i₀ i-end i = i-end - i
 
-loop-holds : tie.Need-loop-holds Inv-loop μ-loop
-loop-holds c = (search needs, below-none _)
+its : (c : tie.After-tested Inv-loop μ-loop) → let l = c .before .before .before .before in
+    let a = l .before .before .before .args in c .tested .result ≡ row10Read (a .h .now) (a .text .now) (l .loop .i)
+its c = rw (c .tested .ensures, c .before .in-bounds .ensures, c .before .before .node-at .ensures)
 
 returns : tie.Need-returns Inv-loop μ-loop
 returns c =
-    let l = c .before .before .before .before in
-    let e = c .before .before .bound .ensures in
-    e ∙ sym (scan-hit _ _ _ (c .before .before .before .loop-test .taken) (l .loop .inv .1) (other-number e (c .if1 .taken)))
+    let t = c .before .before in
+    let l = t .before .before .before in
+    its t ∙ sym (scan-hit _ _ _ (l .loop-test .taken) (l .before .loop .inv .1) (other-number (its t) (c .if1 .taken)))
 
 loop-again : tie.Need-loop-again Inv-loop μ-loop
-loop-again c = (search needs, below-more _ _ (c .before .before .before .before .loop .inv .1) (same-number (c .before .before .bound .ensures) (c .if1 .left)))
+loop-again c =
+    let t = c .before .before in
+    (search needs, below-more _ _ (t .before .before .before .before .loop .inv .1) (same-number (its t) (c .if1 .left)))
 
 returns-2 : tie.Need-returns-2 Inv-loop μ-loop
 returns-2 c = c .accept .ensures ∙ sym (scan-none _ _ (λ k h. c .before .before .loop .inv .1 k (omega arith)))
@@ -35,5 +36,5 @@ returns-2 c = c .accept .ensures ∙ sym (scan-none _ _ (λ k h. c .before .befo
 pub bounds-spec : {M : Type 1} → statement M
 bounds-spec =
     tie.close
-    (tie.spec Inv-loop μ-loop loop-holds (λ c κs. search needs) returns (λ c. search needs) (λ c. search needs) loop-again (λ c κs. search needs)
-    returns-2)
+    (tie.spec Inv-loop μ-loop (λ c. (search needs, below-none _)) (λ c κs. search needs) (λ c κs. tt) (λ c κs. tt) returns (λ c. search needs) (λ c. search needs)
+    loop-again (λ c κs. tt) returns-2)

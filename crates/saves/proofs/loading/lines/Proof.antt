@@ -34,4 +34,4 @@ pub lines-spec : {M : Type 1} → statement M
 lines-spec =
     tie.close
     (tie.spec Inv-loop μ-loop (λ c. omega arith) loop-holds (λ c κs. search needs) returns (λ c. search needs) (λ c. search needs) loop-again
-    (λ c κs. search needs) returns-2)
+    (λ c κs. tt) returns-2)

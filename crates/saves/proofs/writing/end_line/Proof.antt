@@ -12,4 +12,4 @@ returns c =
     rw (c .seal .ensures, c .before .append .ensures, c .before .before .begin .ensures) (built (end (c .before .before .before .args .n)) (lit< tt))
 
 pub end-line-spec : {M : Type 1} → statement M
-end-line-spec = tie.close (tie.spec (λ c. search needs) (λ c κs. search needs) (λ c κs. search needs) (λ c κs. search needs) returns)
+end-line-spec = tie.close (tie.spec (λ c. search needs) (λ c κs. tt) (λ c κs. tt) (λ c κs. tt) returns)

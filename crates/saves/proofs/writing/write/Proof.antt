@@ -1,9 +1,11 @@
 use Prim.Native.Nat.{_+_, _-_, _≤_}
-use mathlib.Core.Path.{_≡_, ap, _∙_}
+use mathlib.Core.Path.{_≡_, refl, ap, _∙_}
 use native.Mathlib.Omega.{arith}
 use borrow.Author.Needs.{needs}
 use lib.ListN.{length}
-use Rattle.saves.proofs.WriteLaws.{reached, soFar, reached-none, so-far-none, so-far-all, so-far-long, put-next}
+use Rattle.saves.specs.Save.{linesTo}
+use Rattle.saves.proofs.LineLaws.{lines-long, save-long}
+use Rattle.saves.proofs.WriteLaws.{reached, soFar, so-far-long, put-next}
 use Rattle.saves.proofs.writing.write.Statement.{statement}
 use Rattle.saves.proofs.writing.write.Tie as tie
 
@@ -15,9 +17,8 @@ abbrev μ-loop : tie.MeasureT-loop
 μ-loop text₀ n e state clock count at₀ j₀ text at j = count - j
 
 loop-holds : tie.Need-loop-holds Inv-loop μ-loop
-loop-holds c =
-    let a = c .before .before .args in
-    (omega arith, reached-none (a .n) (a .e) (a .state .now) (a .clock), so-far-none (a .n) (a .e) (a .state .now) (a .clock) (a .text .now))
+unfolding linesTo
+loop-holds c = (omega arith, refl, refl)
 
 loop-again : tie.Need-loop-again Inv-loop μ-loop
 loop-again c =
@@ -39,10 +40,10 @@ returns c =
     let p = c .before in
     let a = p .before .before .before .args in
     let last : p .loop .j ≡ a .n + 2 = omega arith in
-    p .loop .inv .2 ∙ rw last (so-far-all (a .n) (a .e) (a .state .now) (a .clock) (a .text .now))
+    p .loop .inv .2 ∙ rw (last, lines-long (a .n) (a .e) (a .state .now) (a .clock) (a .n + 2), save-long (a .n))
 
 pub write-spec : {M : Type 1} → statement M
 write-spec =
     tie.close
-    (tie.spec Inv-loop μ-loop (λ c. omega arith) loop-holds (λ c κs. search needs) (λ c κs. search needs) (λ c. omega arith) (λ c. omega arith)
+    (tie.spec Inv-loop μ-loop (λ c. omega arith) loop-holds (λ c κs. search needs) (λ c κs. tt) (λ c. omega arith) (λ c. omega arith)
     loop-again same-length returns)

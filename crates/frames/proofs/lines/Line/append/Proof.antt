@@ -4,15 +4,15 @@ use native.Mathlib.Omega.{arith}
 use borrow.Author.Needs.{needs}
 use lib.ListN.{length, length-set}
 use Rattle.frames.specs.Bytes.{digits, field}
-use Rattle.frames.specs.Building.{room, laid}
+use Rattle.frames.specs.Building.{longest, laid}
 use Rattle.frames.proofs.LaidLaws.{laid-none}
 use Rattle.frames.proofs.BuildLaws.{hex, hex-field, hex-turn, field-digits, appended-room, appended-full}
 use Rattle.frames.proofs.lines.Line.append.Statement.{statement}
 use Rattle.frames.proofs.lines.Line.append.Tie as tie
 
 abbrev Inv-loop : tie.InvT-loop
-Inv-loop width value at bytes₀ rest₀ left₀ len bytes rest left =
-    (left ≤ 2 * width) × (length bytes ≡ room) × (laid bytes at (hex left rest) ≡ laid bytes₀ at (hex (2 * width) value))
+Inv-loop width value at line₀ rest₀ left₀ line rest left =
+    (left ≤ width) × (length (line .bytes) ≡ longest) × (laid (line .bytes) at (digits (field left rest)) ≡ laid (line₀ .bytes) at (digits (field width value)))
 
 abbrev μ-loop : tie.MeasureT-loop
 μ-loop width value at bytes₀ rest₀ left₀ len bytes rest left = left

@@ -2,16 +2,18 @@
 -- three +0."
 use Prim.Native.Nat.{ℕ}
 use mathlib.Core.Bool.{cond}
-use mathlib.Core.List.{List}
+use mathlib.Core.List.{List, [], _∷_}
 use lib.Dec.{eqb}
 use Rattle.lists.specs.declared.rows.Answer.{Answer}
 use Rattle.lists.specs.Numbers.{plus0}
-use Rattle.frames.specs.Frames.{digitsOf, byteOf}
-use Rattle.frames.specs.Reading.{fault}
+use Rattle.frames.specs.Frames.{Layout, digitsOf, byteOf}
+use Rattle.frames.specs.Reading.{float, fault}
 use Rattle.equations.specs.declared.Forcing.{Forcing}
-use Rattle.saves.specs.declared.Taken.{Taken}
-use Rattle.saves.specs.Lines.{forcingLayout}
-use Rattle.saves.specs.Load.{float}
+use Rattle.forcings.specs.declared.Taken.{Taken}
+
+-- "10 forcing, its own sequence from 0 to 65,535: elevation, Wx', Wy'. 56 digits."
+abbrev pub forcingLayout : Layout
+forcingLayout = record { kind = 16; widths = 8 ∷ 8 ∷ 8 ∷ [] }
 
 abbrev pub still : Forcing
 still = record { elevation = plus0; wx = plus0; wy = plus0 }

@@ -8,12 +8,12 @@ use lib.Ieee.{Float, nan, binary64, fits}
 use Rattle.surge.specs.declared.Clock.{Clock}
 
 -- a step of 4 bytes and two binary64 values
-pub record HeldClock (k : Clock) : Type 0 where
+pub record StorableClock (k : Clock) : Type 0 where
   pub step : k .step < 256 ^ 4
   pub wx : T (fits binary64 (k .wx))
   pub wy : T (fits binary64 (k .wy))
 
 -- four runs of n binary64 values
-pub record HeldState (n : ℕ) (state : List Float) : Type 0 where
+pub record StorableState (n : ℕ) (state : List Float) : Type 0 where
   pub long : length state ≡ 4 * n
   pub values : (j : ℕ) → j < length state → T (fits binary64 (getD state j nan))

@@ -1,0 +1,35 @@
+// Forcing lines.
+use equations::Forcing;
+use frames::reading;
+use lists::rows::Answer;
+ghost use mathlib.Core.Path.{_≡_};
+ghost use Rattle.forcings.specs.Forcings.{takenOf};
+
+// What reading a forcing line hands back.
+pub struct Taken {
+    pub answer: Answer,
+    pub forcing: Forcing,
+}
+
+// Reads one forcing line against the sequence number that is expected, which may be one that no line has.
+pub fn read_forcing(line: &[u8], expected: u32) -> Taken
+    ensures { λ r. ⌜ r ≡ takenOf (now (line .entry)) expected ⌝ }
+{
+    let answer = reading::fault(line, 56, 16, expected as u64, 0);
+    if answer.number != 0 {
+        return Taken {
+            answer,
+            forcing: Forcing {
+                elevation: 0.0,
+                wx: 0.0,
+                wy: 0.0,
+            },
+        };
+    }
+    let forcing = Forcing {
+        elevation: reading::float_at(line, 3),
+        wx: reading::float_at(line, 11),
+        wy: reading::float_at(line, 19),
+    };
+    Taken { answer, forcing }
+}
