@@ -17,7 +17,7 @@ use Rattle.frames.specs.Frames.{Field, Frame, Held, wide, opening, allFi
 use Rattle.frames.specs.Reading.{value, float, isFramed, row20, row21, row22, fault}
 use Rattle.frames.proofs.ByteLaws.{digits-right, digits-length, field-length}
 use Rattle.frames.proofs.PatternLaws.{pattern-fits, float-back}
-use Rattle.frames.proofs.NumberLaws.{number-back, number-small}
+use Rattle.frames.proofs.ByteLaws.{number-back, number-small}
 use Rattle.frames.proofs.FrameLaws.{fields-before, fields-join, checked-sum, frame-bytes, line-digits, text-length, text-bytes}
 
 -- ---- a value that is read is small enough for its width, on every line

@@ -43,7 +43,7 @@ pub hex-turn : (l : List ℕ) (at k v : ℕ) → at + k < length l → laid (set
 unfolding hex
 hex-turn l at k v h = rw hex-length at (laid-last l at (hex k (v / 16)) (digit (v % 16)) (rw hex-length h))
 
--- ---- appending, with and without room
+-- ---- appending, with and without longest
 module _ (l : Line) (t : List ℕ) where
   pub appended-room : l .len + length t ≤ longest → appended l t ≡ record { bytes = laid (l .bytes) (l .len) t; len = l .len + length t }
   unfolding appended
@@ -52,13 +52,6 @@ module _ (l : Line) (t : List ℕ) where
   pub appended-full : longest < l .len + length t → appended l t ≡ l
   unfolding appended
   appended-full h = rw (lt-leb (l .len + length t) longest h)
-
-pub sealed-full : (l : Line) → longest < l .len + 3 → sealed l ≡ l
-unfolding sealed digits
-sealed-full l h = appended-full l _ h
-
-with-len : ℕ → List ℕ → Line
-with-len n b = record { bytes = b; len = n }
 
 -- the check byte is a field of one byte, and the line feed stands after it
 pub sealed-room : (l m : Line) → length (l .bytes) ≡ longest → l .len + 3 ≤ longest → m ≡ appended l (digits (field 1 (256 - sum (bytes (written l)) % 256)))

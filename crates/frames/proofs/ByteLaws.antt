@@ -11,14 +11,14 @@ use borrow.Author.Tests.{lt-ltb, ltb-true, ltb-false, eqb-true}
 use lib.Dec.{lit<, ltb, eqb}
 use lib.ListN.{length, take, drop, getD, length-append, length-drop}
 use lib.Seq.{drop-cons, take-suc, take-all, take-take, getD-drop}
-use Rattle.lists.specs.Scan.{row, clean}
-use Rattle.lists.proofs.ScanLaws.{row-passed, clean-each}
+use Rattle.lists.specs.Scan.{row, _then_, scan}
+use Rattle.lists.proofs.ScanLaws.{row-passed, scan-clean}
 use Rattle.frames.specs.Bytes.{digit, worth, isDigit, areDigits, digits, byte, bytes, allDigits, field, number, sum}
 
 -- ---- a digit is worth what it was written for: each of the sixteen
 worth-digit : (n : ℕ) → n < 16 → worth (digit n) ≡ n
-unfolding worth digit clean row
-worth-digit n h = eqb-true _ _ (row-passed _ 0 0 (clean-each (λ (k : ℕ). row (eqb (worth (digit k)) k) 1 0) 16 refl n h))
+unfolding worth digit scan _then_ row
+worth-digit n h = eqb-true _ _ (row-passed _ 0 0 (scan-clean (λ (k : ℕ). row (eqb (worth (digit k)) k) 1 0) 16 refl n h))
 
 digit-right : (n : ℕ) → n < 16 → isDigit (digit n) ≡ true
 digit-right n h = rw (worth-digit n h) (lt-ltb n 16 h)

@@ -9,8 +9,7 @@ use lib.ListN.{length, take, length-append}
 use Rattle.frames.specs.Bytes.{digits, bytes, field, sum, check}
 use Rattle.frames.specs.Frames.{Field, Frame, allFields, fieldBytes, checked, frameBytes, lineFeed, text, widthsOf, digitsOf, byteOf}
 use Rattle.frames.specs.Building.{longest, holding, withFields, begun, sealed}
-use Rattle.frames.proofs.ByteLaws.{Bytes, bytes-join, field-bytes, bytes-back, digits-join, digits-length, field-length}
-use Rattle.frames.proofs.NumberLaws.{sum-join}
+use Rattle.frames.proofs.ByteLaws.{Bytes, bytes-join, field-bytes, bytes-back, digits-join, digits-length, field-length, sum-join}
 use Rattle.frames.proofs.BuildLaws.{written-holding, appended-holding}
 
 -- ---- the bytes of fields
@@ -58,12 +57,11 @@ fields-holding t (f ∷ fs) h =
     rw (both, appended-holding t u (omega arith), fields-holding (t ++ u) fs (omega arith), append-assoc)
 
 sealed-holding : (bs : List ℕ) → Bytes bs → length (digits bs) + 3 ≤ longest → sealed (holding (digits bs)) ≡ holding (digits (checked bs) ++ (lineFeed ∷ []))
-unfolding sealed checked bytes
+unfolding sealed checked bytes digits
 sealed-holding bs p h =
     let u = digits (check bs ∷ []) ++ (lineFeed ∷ []) in
     let back : bytes (digits bs) ≡ bs = ap bytes (sym (append-nil (digits bs))) ∙ bytes-back bs [] p ∙ append-nil bs in
-    let fits : length (digits bs) + length u ≤ longest = omega (arith, ending-length (check bs)) in
-    rw (written-holding, back, appended-holding (digits bs) u fits, digits-join bs (check bs ∷ []), append-assoc)
+    rw (written-holding, back, appended-holding (digits bs) u h, digits-join bs (check bs ∷ []), append-assoc)
 
 -- ---- a frame's line
 module _ (f : Frame) where

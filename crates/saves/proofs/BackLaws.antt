@@ -8,7 +8,7 @@ use native.Mathlib.Nat.{not-suc-le-zero, le-of-suc-le-suc, eq-or-lt-of-le}
 use native.Mathlib.Omega.{arith}
 use borrow.Author.Tests.{lt-ltb, ltb-true, ltb-false, eq-eqb}
 use lib.Dec.{ltb, eqb, lit<, lit≤}
-use lib.ListN.{length, getD}
+use lib.ListN.{getD}
 use lib.Seq.{take-at, drop-at}
 use lib.Ieee.{Float, nan}
 use Rattle.lists.specs.Scan.{accepted}
@@ -22,7 +22,8 @@ use Rattle.saves.specs.Storable.{StorableClock, StorableState}
 use Rattle.saves.specs.Save.{lineOf, linesTo, saveText}
 use Rattle.saves.specs.Load.{lineAt, row23, lineRows, clockOf, loadedNode, loadedState}
 use Rattle.saves.proofs.LineLaws.{line-long, lines-long}
-use Rattle.saves.proofs.NodeLaws.{nodeIn, loaded-all}
+use Rattle.bounds.specs.State.{nodeOf}
+use Rattle.saves.proofs.NodeLaws.{loaded-all}
 
 module _ (n e : ℕ) (state : List Float) (k : Clock) where
   -- line j of the first m lines, whatever follows them
@@ -83,13 +84,13 @@ module _ (n e : ℕ) (state : List Float) (k : Clock) where
       rw (line-back 0 (omega arith))
       (λ i. record { step = its-step i; wx = float-field l 3 (lit< tt) (k .wx) refl (s .wx) i; wy = float-field l 4 (lit< tt) (k .wy) refl (s .wy) i })
 
-  module _ (s : StorableState n state) (h : List Float) (q : length h ≡ n) where
+  module _ (s : StorableState n state) (h : List Float) where
     -- the values of node i that are read of a save's text are those that the state has there
-    pub node-back : (i : ℕ) → i < n → nodeIn n h state i ≡ loadedNode h (saveText n e state k) i
+    pub node-back : (i : ℕ) → i < n → nodeOf n h state i ≡ loadedNode n h (saveText n e state k) i
     unfolding loadedNode lineOf
     node-back i l =
         let f = nodeLine i (stateValues n state i) in
-        rw (q, line-back (suc i) (omega arith), lt-ltb i n l)
+        rw (line-back (suc i) (omega arith), lt-ltb i n l)
         (λ j. record {
           h = getD h i nan;
           earlier = sym (float-field f 0 (lit< tt) _ refl (s .values (0 * n + i) (omega arith))) j;
@@ -99,5 +100,5 @@ module _ (n e : ℕ) (state : List Float) (k : Clock) where
         })
 
     -- and the state is the one that was saved
-    pub state-back : loadedState h (saveText n e state k) ≡ state
-    state-back = sym (loaded-all h (saveText n e state k) n q state (s .long) node-back)
+    pub state-back : loadedState n h (saveText n e state k) ≡ state
+    state-back = sym (loaded-all n h (saveText n e state k) state (s .long) node-back)

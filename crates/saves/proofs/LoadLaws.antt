@@ -1,30 +1,31 @@
 -- The outcomes of a load: refused, and loaded; and what an accepted load leaves passes rows 10 and 12.
-use Prim.Native.Nat.{ℕ, _*_, _<_}
-use mathlib.Core.Path.{_≡_, refl, ap, subst, _∙_}
+use Prim.Native.Nat.{ℕ, _<_}
+use mathlib.Core.Path.{_≡_, refl, ap}
 use mathlib.Core.Bool.{Bool, true, false}
 use mathlib.Core.List.{List}
 use borrow.Author.Tests.{eqb-true, eqb-false, eq-eqb, ne-eqb}
 use lib.Dec.{eqb}
-use lib.ListN.{length}
 use lib.Ieee.{Float}
 use Rattle.lists.specs.declared.rows.Answer.{Answer}
 use Rattle.lists.proofs.ScanLaws.{row-passed, then-first, then-rest, scan-clean, same-number, other-number}
 use Rattle.equations.specs.declared.Parameters.{Parameters}
 use Rattle.surge.specs.declared.Clock.{Clock}
 use Rattle.mesh.specs.Lent.{Mesh, N}
-use Rattle.surge.specs.Lent.{After, after}
-use Rattle.mesh.specs.Rows.{rows1to9}
+use Rattle.surge.specs.Lent.{After, after, windOf}
+use Rattle.mesh.specs.Rows.{meshRows}
 use Rattle.limits.specs.Limits.{inBounds, row12Held}
-use Rattle.bounds.specs.State.{rows1to10}
-use Rattle.surge.specs.State.{windOf}
-use Rattle.mesh.proofs.AcceptedLaws.{accepted, accepted-rooms}
-use Rattle.surge.proofs.KeptLaws.{four-tables, four-long, in-bounds}
+use Rattle.bounds.specs.State.{runRows}
+use Rattle.lists.specs.Scan.{accepted}
+use Rattle.lists.proofs.RunLaws.{runs-length}
+use Rattle.mesh.proofs.ShapedLaws.{mesh-asked}
+use Rattle.bounds.proofs.StateLaws.{in-bounds}
+use Rattle.surge.proofs.NextLaws.{four-runs}
 use Rattle.saves.specs.Load.{clockOf, loadedNode, loadAnswer, loadedState, loadOf}
 
 module _ (m : Mesh) (p : Parameters) (t : List ℕ) (state : List Float) where
   -- the text's state and clock
   abbrev pub tookText : After
-  tookText = after (record { answer = loadAnswer m p t state; clock = clockOf (N m) t }) (loadedState (m .h) t)
+  tookText = after (record { answer = loadAnswer m p t state; clock = clockOf (N m) t }) (loadedState (N m) (m .h) t)
 
   module _ (k : Clock) where
     -- state and clock as found
@@ -35,7 +36,7 @@ module _ (m : Mesh) (p : Parameters) (t : List ℕ) (state : List Float) where
     unfolding loadOf
     load-refused e h = rw (ne-eqb _ _ (other-number e h)) (ap (λ (b : Answer). after (record { answer = b; clock = k }) state) e)
 
-    pub load-taken : {a : Answer} {c : Clock} {new : List Float} → a ≡ loadAnswer m p t state → a .number ≡ 0 → c ≡ clockOf (N m) t → new ≡ loadedState (m .h) t
+    pub load-taken : {a : Answer} {c : Clock} {new : List Float} → a ≡ loadAnswer m p t state → a .number ≡ 0 → c ≡ clockOf (N m) t → new ≡ loadedState (N m) (m .h) t
         → after (record { answer = a; clock = c }) new ≡ loadOf m p t state k
     unfolding loadOf
     load-taken e h ec en = rw (eq-eqb _ _ (same-number e h)) (λ i. after (record { answer = e i; clock = ec i }) (en i))
@@ -68,27 +69,21 @@ module _ (m : Mesh) (p : Parameters) (t : List ℕ) (state : List Float) where
 
   -- ---- what an accepted load leaves
   module _ (ok : loadAnswer m p t state .number ≡ 0) where
-    load-mesh : rows1to9 true false m p .number ≡ 0
+    pub load-mesh : meshRows accepted m p .number ≡ 0
     unfolding loadAnswer
-    load-mesh =
-        let lent = then-first _ _ ok in
-        subst (λ (b : Bool). rows1to9 b false m p .number ≡ 0) (accepted-rooms _ _ _ _ lent) lent
-
-    pub load-depths : length (m .h) ≡ N m
-    load-depths = accepted _ _ _ _ load-mesh .sized .h
+    load-mesh = mesh-asked _ m p (then-first _ _ ok)
 
     -- row 12 for the head's wind
     pub loaded-wind : row12Held (windOf (clockOf (N m) t)) .number ≡ 0
     unfolding loadAnswer
     loaded-wind = then-first _ _ (then-rest _ _ (then-rest _ _ (then-rest _ _ ok)))
 
-    node-read : (i : ℕ) → i < N m → inBounds (loadedNode (m .h) t i) ≡ true
+    node-read : (i : ℕ) → i < N m → inBounds (loadedNode (N m) (m .h) t i) ≡ true
     unfolding loadAnswer
     node-read i l = row-passed _ 9 i (scan-clean _ _ (then-rest _ _ (then-rest _ _ (then-rest _ _ (then-rest _ _ ok)))) i l)
 
     -- row 10 over the loaded values
-    pub loaded-rows : rows1to10 true m p (loadedState (m .h) t) .number ≡ 0
+    pub loaded-rows : runRows accepted m p (loadedState (N m) (m .h) t) .number ≡ 0
     unfolding loadedState loadedNode
     loaded-rows =
-        in-bounds m p (loadedState (m .h) t) load-mesh (four-long (length (m .h)) _ _ _ _ ∙ ap (λ (n : ℕ). 4 * n) load-depths)
-        (λ i l. rw (four-tables (m .h) _ _ _ _ i (rw load-depths l)) (node-read i l))
+        in-bounds m p (loadedState (N m) (m .h) t) load-mesh (runs-length (N m) _) (λ i l. rw (four-runs (N m) (m .h) _ _ _ _ i l) (node-read i l))

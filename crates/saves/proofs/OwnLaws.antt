@@ -2,25 +2,22 @@
 use Prim.Native.Nat.{ℕ, _+_, _*_, _<_, _≤_}
 use mathlib.Core.Path.{_≡_, refl, sym, ap, subst, _∙_}
 use mathlib.Core.Bool.{Bool, true, false}
-use mathlib.Core.List.{List}
+use mathlib.Core.List.{List, []}
 use native.Mathlib.Omega.{arith}
 use borrow.Author.Tests.{eqb-true, eq-eqb, le-leb}
 use lib.Dec.{eqb}
 use lib.ListN.{length, take}
 use lib.Seq.{take-at}
-use lib.Ieee.{Float, nan}
+use lib.Ieee.{Float}
 use Rattle.lists.specs.declared.rows.Answer.{Answer}
-use Rattle.lists.specs.Table.{table}
 use Rattle.lists.specs.Scan.{accepted}
 use Rattle.lists.proofs.ScanLaws.{row-holds, then-first, then-rest, scan-none, same-number, goes}
-use Rattle.lists.proofs.TableLaws.{length-table}
 use Rattle.equations.specs.declared.Parameters.{Parameters}
 use Rattle.surge.specs.declared.Clock.{Clock}
 use Rattle.mesh.specs.Lent.{Mesh, N, E}
-use Rattle.surge.specs.Lent.{After, after}
+use Rattle.surge.specs.Lent.{After, after, windOf}
 use Rattle.limits.specs.Limits.{row12Held}
-use Rattle.bounds.specs.State.{row10, rows1to10}
-use Rattle.surge.specs.State.{windOf}
+use Rattle.bounds.specs.State.{stateRuns, runRows}
 use Rattle.bounds.proofs.StateLaws.{AcceptedRun, accepted-run}
 use Rattle.saves.specs.Storable.{StorableClock, StorableState}
 use Rattle.saves.specs.Lines.{saveLength}
@@ -28,40 +25,37 @@ use Rattle.saves.specs.Save.{saveText, saveAnswer, wrote, saveOf}
 use Rattle.saves.specs.Load.{row10Read, clockOf, loadAnswer, loadedState, loadOf}
 use Rattle.saves.proofs.LineLaws.{lines-long, save-long}
 use Rattle.saves.proofs.SaveLaws.{save-writes, save-accepts}
-use Rattle.saves.proofs.LoadLaws.{load-took, load-depths, loaded-rows, loaded-wind}
+use Rattle.saves.proofs.LoadLaws.{load-took, loaded-rows, loaded-wind}
 use Rattle.saves.proofs.StorableLaws.{clock-storable, state-storable}
 use Rattle.saves.proofs.BackLaws.{lines-fine, clock-back, node-back, state-back}
 
 -- two runs on one mesh whose saves have the same text are the same run
 pub same-text : (n e : ℕ) (state₁ state₂ : List Float) (k₁ k₂ : Clock) → StorableState n state₁ → StorableState n state₂ → StorableClock k₁ → StorableClock k₂
     → saveText n e state₁ k₁ ≡ saveText n e state₂ k₂ → (state₁ ≡ state₂) × (k₁ ≡ k₂)
-same-text n e state₁ state₂ k₁ k₂ s₁ s₂ c₁ c₂ same =
-    let h = table n (λ _. nan) in
-    let q = length-table n (λ _. nan) in (
-      sym (state-back n e state₁ k₁ s₁ h q) ∙ ap (loadedState h) same ∙ state-back n e state₂ k₂ s₂ h q,
-      sym (clock-back n e state₁ k₁ c₁) ∙ ap (clockOf n) same ∙ clock-back n e state₂ k₂ c₂,
-    )
+same-text n e state₁ state₂ k₁ k₂ s₁ s₂ c₁ c₂ same = (
+  sym (state-back n e state₁ k₁ s₁ []) ∙ ap (loadedState n []) same ∙ state-back n e state₂ k₂ s₂ [],
+  sym (clock-back n e state₁ k₁ c₁) ∙ ap (clockOf n) same ∙ clock-back n e state₂ k₂ c₂,
+)
 
 passed : {a : Answer} → a ≡ accepted → a .number ≡ 0
 passed q = same-number (sym q) refl
 
-module _ (m : Mesh) (p : Parameters) (state : List Float) (k : Clock) (s : StorableState (N m) state) (c : StorableClock k) (old : List Float) (long : length old ≡ 4 * N m) where
+module _ (m : Mesh) (p : Parameters) (state : List Float) (k : Clock) (s : StorableState (N m) state) (c : StorableClock k) (old : List Float) (long : length old ≡ stateRuns * N m) where
   -- ---- a save's own text is loaded, over any state of the right length
-  module _ (ok : rows1to10 true m p state .number ≡ 0) (held : row12Held (windOf k) .number ≡ 0) where
-    its : AcceptedRun true m p state
+  module _ (ok : runRows accepted m p state .number ≡ 0) (held : row12Held (windOf k) .number ≡ 0) where
+    its : AcceptedRun accepted m p state
     its = accepted-run _ _ _ _ ok
 
-    node-fine : (i : ℕ) → i < N m → row10Read (m .h) (saveText (N m) (E m) state k) i .number ≡ 0
-    unfolding row10
-    node-fine i b = rw (← node-back (N m) (E m) state k s (m .h) (its .mesh .sized .h) i b, ← its .mesh .sized .h) (its .bounds i b)
+    node-fine : (i : ℕ) → i < N m → row10Read (N m) (m .h) (saveText (N m) (E m) state k) i .number ≡ 0
+    node-fine i b = ap (λ (a : Answer). a .number) (row-holds 10 i (rw (← node-back (N m) (E m) state k s (m .h) i b) (its .bounds i b)))
 
     -- where a save's rows accept the run, a load accepts its text
     load-fine : accepted ≡ loadAnswer m p (saveText (N m) (E m) state k) old
     unfolding loadAnswer
     load-fine =
-        let sized = its .mesh .sized in
+        let sized = its .shape .sized in
         let no-more : length (saveText (N m) (E m) state k) ≤ saveLength (N m) = rw (lines-long, save-long) (omega arith) in
-        goes _ (rw (eq-eqb _ _ long) (its .to-9))
+        goes _ (rw (row-holds 1 0 (eq-eqb _ _ long)) (its .mesh))
         (goes _ (passed (scan-none _ (N m + 2) (λ j b. passed (lines-fine (N m) (E m) state k (sized .most-nodes) (omega (arith, sized .most-triangles)) j b))))
         (goes _ (passed (row-holds 20 (N m + 2) (le-leb _ _ no-more)))
         (goes _ (rw (clock-back (N m) (E m) state k c) held) (sym (scan-none _ (N m) node-fine)))))
@@ -69,7 +63,7 @@ module _ (m : Mesh) (p : Parameters) (state : List Float) (k : Clock) (s : Stora
     -- and gives the run that was saved: its clock and its state
     pub load-own : (clock : Clock) → loadOf m p (saveText (N m) (E m) state k) old clock ≡ after (record { answer = accepted; clock = k }) state
     unfolding loadOf
-    load-own clock = rw (← load-fine, clock-back (N m) (E m) state k c, state-back (N m) (E m) state k s (m .h) (its .mesh .sized .h))
+    load-own clock = rw (← load-fine, clock-back (N m) (E m) state k c, state-back (N m) (E m) state k s (m .h))
 
   -- ---- a save and a load
   module _ (t : List ℕ) (done : saveOf m p state k t .answer .number ≡ 0) where
@@ -100,11 +94,11 @@ Again m p text old other o =
     × (loadOf m p (take (s .answer .place) (s .text)) old other ≡ after (record { answer = accepted; clock = o .reply .clock }) (o .state))
 
 pub loaded-again : (m : Mesh) (p : Parameters) (t : List ℕ) (state : List Float) (k : Clock) (text : List ℕ) (old : List Float) (other : Clock)
-    → loadOf m p t state k .reply .answer .number ≡ 0 → saveLength (N m) ≤ length text → length old ≡ 4 * N m
+    → loadOf m p t state k .reply .answer .number ≡ 0 → saveLength (N m) ≤ length text → length old ≡ stateRuns * N m
     → Again m p text old other (loadOf m p t state k)
 loaded-again m p t state k text old other done enough long =
     let (ok, out) = load-took m p t state k (eq-eqb _ _ done) in
-    let fits = state-storable (m .h) t (N m) (load-depths m p t state ok) in
+    let fits = state-storable (N m) (m .h) t in
     let rows = loaded-rows m p t state ok in
     let wind = loaded-wind m p t state ok in
     subst (Again m p text old other) (sym out) (

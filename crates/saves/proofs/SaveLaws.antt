@@ -1,7 +1,6 @@
 -- The outcomes of a save: refused, and written.
 use Prim.Native.Nat.{ℕ, _≤_}
 use mathlib.Core.Path.{_≡_, ap, _∙_}
-use mathlib.Core.Bool.{true}
 use mathlib.Core.List.{List, _++_}
 use borrow.Author.Tests.{eq-eqb, ne-eqb, le-leb}
 use lib.ListN.{length, drop}
@@ -12,8 +11,9 @@ use Rattle.equations.specs.declared.Parameters.{Parameters}
 use Rattle.surge.specs.declared.Clock.{Clock}
 use Rattle.mesh.specs.Lent.{Mesh, N, E}
 use Rattle.limits.specs.Limits.{row12Held}
-use Rattle.bounds.specs.State.{rows1to10}
-use Rattle.surge.specs.State.{windOf}
+use Rattle.bounds.specs.State.{runRows}
+use Rattle.lists.specs.Scan.{accepted}
+use Rattle.surge.specs.Lent.{windOf}
 use Rattle.saves.specs.Lines.{saveLength}
 use Rattle.saves.specs.Save.{saveText, row24, saveAnswer, saveOut, wrote, saveOf}
 
@@ -28,7 +28,7 @@ module _ (m : Mesh) (p : Parameters) (state : List Float) (k : Clock) (t : List 
   save-written e h en = rw (eq-eqb _ _ (same-number e h)) (ap (saveOut (wrote (saveLength (N m)))) en)
 
   -- a run that passes rows 10 and 12, and room enough
-  module _ (ok : rows1to10 true m p state .number ≡ 0) (held : row12Held (windOf k) .number ≡ 0) (l : saveLength (N m) ≤ length t) where
+  module _ (ok : runRows accepted m p state .number ≡ 0) (held : row12Held (windOf k) .number ≡ 0) (l : saveLength (N m) ≤ length t) where
     pub save-fine : saveAnswer m p state k t .number ≡ 0
     unfolding saveAnswer row24
     save-fine = ap (λ (a : Answer). a .number) (then-next _ _ ok ∙ then-next _ _ held ∙ row-holds 24 (saveLength (N m)) (le-leb _ _ l))

@@ -1,6 +1,6 @@
 -- What is loaded of any text can be saved again, and so can a cold start and what a step gives.
 use Prim.Native.Nat.{ℕ, zero, suc, _+_, _*_}
-use mathlib.Core.Path.{_≡_, refl, subst}
+use mathlib.Core.Path.{_≡_, refl}
 use mathlib.Core.Bool.{Bool, true, false, cond}
 use mathlib.Core.List.{List, [], _∷_, _++_}
 use native.Mathlib.Omega.{arith}
@@ -11,20 +11,21 @@ use lib.Ieee.{Float, nan, binary64, fits}
 use lib.Ieee.Bits.{ofBits-fits}
 use lib.Ieee.Fits.{nan-fits, add-fits, div-fits, cond-fits}
 use Rattle.lists.specs.Table.{table}
-use Rattle.lists.specs.Runs.{room}
+use Rattle.lists.specs.Runs.{runsOf}
 use Rattle.lists.specs.Numbers.{plus0}
 use Rattle.lists.proofs.TableLaws.{length-table}
 use Rattle.equations.specs.declared.Parameters.{Parameters}
+use Rattle.equations.specs.declared.Forcing.{Forcing}
 use Rattle.equations.specs.declared.Push.{Push}
 use Rattle.equations.specs.declared.Flow.{Flow}
 use Rattle.equations.specs.Elevation.{z′}
 use Rattle.equations.specs.Velocity.{flow, U′ as u′, V′ as v′}
 use Rattle.frames.proofs.BackLaws.{value-small}
-use Rattle.mesh.specs.Lent.{N}
-use Rattle.surge.specs.Lent.{coldState, coldClock}
+use Rattle.mesh.specs.Lent.{Mesh, N}
+use Rattle.surge.specs.Lent.{Run, coldState, coldClock}
 use Rattle.passes.specs.Equations.{riseOf, rise, flowOf, flowAt, nextState}
-use Rattle.surge.specs.Step.{Given, seaOf, advance}
-use Rattle.surge.proofs.KeptLaws.{four-long}
+use Rattle.surge.specs.Step.{givenOf, advance}
+use Rattle.lists.proofs.RunLaws.{runs-length}
 use Rattle.saves.specs.Storable.{StorableClock, StorableState}
 use Rattle.saves.specs.Load.{lineAt, clockOf, loadedNode, loadedState}
 
@@ -41,24 +42,24 @@ join-fit (x ∷ a) b f g (suc j) = join-fit a b (λ i. f (suc i)) g j
 abbrev EachFits : (ℕ → Float) → Type 0
 EachFits f = (i : ℕ) → T (fits binary64 (f i))
 
+abbrev AllOf : List (ℕ → Float) → Type 0
+AllOf [] = Unit {0}
+AllOf (f ∷ fs) = EachFits f × AllOf fs
+
 table-fit : (n : ℕ) (f : ℕ → Float) → EachFits f → AllFit (table n f)
 unfolding table
 table-fit zero f h j = nan-fits binary64
 table-fit (suc n) f h zero = h 0
 table-fit (suc n) f h (suc j) = table-fit n (λ k. f (suc k)) (λ i. h (suc i)) j
 
--- four tables of n
-four-storable : (n : ℕ) (a b c d : ℕ → Float) → EachFits a → EachFits b → EachFits c → EachFits d
-    → StorableState n (room (table n a ∷ table n b ∷ table n c ∷ table n d ∷ []))
-unfolding room
-four-storable n a b c d fa fb fc fd = record {
-  long = four-long n a b c d;
-  values = λ j _.
-      join-fit (table n a) _ (table-fit n a fa)
-      (join-fit (table n b) _ (table-fit n b fb)
-      (join-fit (table n c) _ (table-fit n c fc)
-      (join-fit (table n d) [] (table-fit n d fd) (λ i. nan-fits binary64)))) j;
-}
+-- runs of n
+runs-fit : (n : ℕ) (fs : List (ℕ → Float)) → AllOf fs → AllFit (runsOf n fs)
+unfolding runsOf
+runs-fit n [] h j = nan-fits binary64
+runs-fit n (f ∷ fs) h j = join-fit (table n f) (runsOf n fs) (table-fit n f (h .0)) (runs-fit n fs (h .1)) j
+
+four-storable : (n : ℕ) (a b c d : ℕ → Float) → EachFits a → EachFits b → EachFits c → EachFits d → StorableState n (runsOf n (a ∷ b ∷ c ∷ d ∷ []))
+four-storable n a b c d fa fb fc fd = record { long = runs-length n _; values = λ j _. runs-fit n (a ∷ b ∷ c ∷ d ∷ []) (fa, (fb, (fc, (fd, tt)))) j }
 
 -- the clock that is read of a text
 pub clock-storable : (n : ℕ) (t : List ℕ) → StorableClock (clockOf n t)
@@ -66,11 +67,10 @@ unfolding clockOf
 clock-storable n t = record { step = value-small (lineAt n t 0) 7 4; wx = ofBits-fits binary64 _; wy = ofBits-fits binary64 _ }
 
 -- the state that is read of a text
-pub state-storable : (h : List Float) (t : List ℕ) (n : ℕ) → length h ≡ n → StorableState n (loadedState h t)
+pub state-storable : (n : ℕ) (h : List Float) (t : List ℕ) → StorableState n (loadedState n h t)
 unfolding loadedState loadedNode
-state-storable h t n q =
-    subst (λ (k : ℕ). StorableState k (loadedState h t)) q
-    (four-storable (length h) _ _ _ _ (λ i. ofBits-fits binary64 _) (λ i. ofBits-fits binary64 _) (λ i. ofBits-fits binary64 _) (λ i. ofBits-fits binary64 _))
+state-storable n h t =
+    four-storable n _ _ _ _ (λ i. ofBits-fits binary64 _) (λ i. ofBits-fits binary64 _) (λ i. ofBits-fits binary64 _) (λ i. ofBits-fits binary64 _)
 
 -- a cold start
 pub cold-clock-storable : StorableClock coldClock
@@ -97,18 +97,16 @@ flow-fit p kind x = go (eqb kind 2)
     go true = (tt, tt)
     go false = (div-fits binary64 _ _, div-fits binary64 _ _)
 
-module _ (g : Given) (f : T (fits binary64 (g .forcing .elevation))) where
-  rise-fit : (i : ℕ) → T (fits binary64 (rise (seaOf g) (g .mesh .kind) (g .forcing) i))
+module _ (m : Mesh) (p : Parameters) (r : Run) (f : Forcing) (fe : T (fits binary64 (f .elevation))) where
+  rise-fit : (i : ℕ) → T (fits binary64 (rise (givenOf m p r f) i))
   unfolding rise riseOf z′
-  rise-fit i = cond-fits binary64 (eqb (getD (g .mesh .kind) i 0) 1) _ _ f (add-fits binary64 _ _)
+  rise-fit i = cond-fits binary64 (eqb (getD (m .kind) i 0) 1) _ _ fe (add-fits binary64 _ _)
 
-  pub next-state-storable : length (g .mesh .h) ≡ N (g .mesh) → StorableState (N (g .mesh)) (g .state) → StorableState (N (g .mesh)) (advance g .state)
+  pub next-state-storable : StorableState (N m) (r .state) → StorableState (N m) (advance m p r f .state)
   unfolding advance nextState flowAt
-  next-state-storable q s =
-      subst (λ (k : ℕ). StorableState k (advance g .state)) q
-      (four-storable (length (g .mesh .h)) _ _ _ _ (λ i. all-fit _ _ s (1 * length (g .mesh .h) + i)) rise-fit (λ i. flow-fit _ _ _ .0) (λ i. flow-fit _ _ _ .1))
+  next-state-storable s = four-storable (N m) _ _ _ _ (λ i. all-fit _ _ s (1 * N m + i)) rise-fit (λ i. flow-fit _ _ _ .0) (λ i. flow-fit _ _ _ .1)
 
-  pub next-clock-storable : T (fits binary64 (g .forcing .wx)) → T (fits binary64 (g .forcing .wy)) → (g .clock .step ≡ 4294967295 → ⊥) → StorableClock (g .clock)
-      → StorableClock (advance g .clock)
+  pub next-clock-storable : T (fits binary64 (f .wx)) → T (fits binary64 (f .wy)) → (r .clock .step ≡ 4294967295 → ⊥) → StorableClock (r .clock)
+      → StorableClock (advance m p r f .clock)
   unfolding advance
   next-clock-storable fx fy l c = record { step = omega (arith, c .step, l); wx = fx; wy = fy }

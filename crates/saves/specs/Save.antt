@@ -1,20 +1,20 @@
 -- Document 01: a save. "A save goes on with 10, 12 (held wind only), 24."
 use Prim.Native.Nat.{ℕ, zero, suc, _+_}
-use mathlib.Core.Bool.{true, cond}
+use mathlib.Core.Bool.{cond}
 use mathlib.Core.List.{List, [], _++_}
 use lib.Dec.{eqb, leb, ltb}
 use lib.ListN.{length, drop}
 use lib.Ieee.{Float}
 use Rattle.lists.specs.declared.rows.Answer.{Answer}
 use Rattle.lists.specs.Numbers.{plus0}
-use Rattle.lists.specs.Scan.{row, _then_}
+use Rattle.lists.specs.Scan.{accepted, row, _then_}
 use Rattle.equations.specs.declared.Parameters.{Parameters}
 use Rattle.frames.specs.Frames.{Frame, text}
 use Rattle.surge.specs.declared.Clock.{Clock}
 use Rattle.mesh.specs.Lent.{Mesh, N, E}
 use Rattle.limits.specs.Limits.{row12Held}
-use Rattle.bounds.specs.State.{rows1to10}
-use Rattle.surge.specs.State.{windOf}
+use Rattle.bounds.specs.State.{runRows}
+use Rattle.surge.specs.Lent.{windOf}
 use Rattle.saves.specs.Lines.{head, stateValues, nodeLine, end, saveLength}
 
 -- a run as a save has it: N, E, state and clock
@@ -38,7 +38,7 @@ unfoldable pub row24 : ℕ → List ℕ → Answer
 row24 n t = row (leb (saveLength n) (length t)) 24 (saveLength n)
 
 unfoldable pub saveAnswer : Mesh → Parameters → List Float → Clock → List ℕ → Answer
-saveAnswer m p state k t = rows1to10 true m p state then row12Held (windOf k) then row24 (N m) t
+saveAnswer m p state k t = runRows accepted m p state then row12Held (windOf k) then row24 (N m) t
 
 pub record SaveOut : Type 0 where
   pub answer : Answer

@@ -4,7 +4,7 @@ use lists::rows::Answer;
 use surge::Clock;
 ghost use mathlib.Core.Path.{_≡_};
 ghost use Rattle.limits.specs.Limits.{row12Held};
-ghost use Rattle.surge.specs.State.{windOf};
+ghost use Rattle.surge.specs.Lent.{windOf};
 
 // Row 12 of the wind that a clock holds.
 pub(crate) fn held_wind(clock: Clock) -> Answer

@@ -3,6 +3,7 @@ pub(crate) mod clocks;
 pub(crate) mod loading;
 pub(crate) mod writing;
 
+use bounds::STATE_RUNS;
 use equations::Parameters;
 use lists::rows;
 use lists::rows::Answer;
@@ -15,7 +16,7 @@ ghost use Rattle.surge.specs.Lent.{after};
 ghost use Rattle.saves.specs.Save.{saveOut, saveOf};
 ghost use Rattle.saves.specs.Load.{loadOf};
 
-// Saves a run: rows 1 to 10, the held wind, the text room; then head, nodes and end. The place of an accepted answer is the bytes written.
+// Saves a run: what a call on a run asks, the held wind, the text room; then head, nodes and end. The place of an accepted answer is the bytes written.
 pub fn save(
     text: &mut [u8],
     state: &[f64],
@@ -29,7 +30,7 @@ pub fn save(
 ) -> Answer
     ensures { λ r. ⌜ saveOut r (now (text .exit)) ≡ saveOf (mesh (now (x .entry)) (now (y .entry)) (now (tri .entry)) (now (h .entry)) (now (kind .entry))) p (now (state .entry)) clock (now (text .entry)) ⌝ }
 {
-    let lent = bounds::rows_to_10(true, x, y, tri, h, kind, p, state);
+    let lent = bounds::run_rows(rows::accept(), x, y, tri, h, kind, p, state);
     if lent.number != 0 {
         return lent;
     }
@@ -48,7 +49,7 @@ pub fn save(
     }
 }
 
-// Loads a run: rows 1 to 9, the text's rows; then state and clock. A refusal leaves both as found.
+// Loads a run: the mesh's rows, the text's rows; then state and clock. A refusal leaves both as found.
 pub fn load(
     state: &mut [f64],
     text: &[u8],
@@ -62,21 +63,22 @@ pub fn load(
 ) -> Reply
     ensures { λ r. ⌜ after r (now (state .exit)) ≡ loadOf (mesh (now (x .entry)) (now (y .entry)) (now (tri .entry)) (now (h .entry)) (now (kind .entry))) p (now (text .entry)) (now (state .entry)) clock ⌝ }
 {
-    let rooms = slices::is_runs(state.len(), 4, x.len());
-    let lent = mesh::check(rooms, false, x, y, tri, h, kind, p);
+    let n = x.len();
+    let long = rows::tested(slices::is_runs(state.len(), STATE_RUNS, n), 1, 0);
+    let lent = mesh::mesh_rows(long, x, y, tri, h, kind, p);
     if lent.number != 0 {
         return Reply {
             answer: lent,
             clock,
         };
     }
-    let answer = loading::text_rows(tri.len() / 3, h, text);
+    let answer = loading::text_rows(n, tri.len() / 3, h, text);
     if answer.number != 0 {
         return Reply { answer, clock };
     }
-    loading::fill(state, h, text);
+    loading::fill(state, n, h, text);
     Reply {
         answer,
-        clock: loading::clock_of(h.len(), text),
+        clock: loading::clock_of(n, text),
     }
 }

@@ -10,6 +10,7 @@ ghost use mathlib.Core.Path.{_≡_};
 ghost use Prim.Native.Nat.{_+_, _*_, _<_, _≤_};
 ghost use lib.ListN.{length, take, drop, set};
 ghost use Rattle.lists.specs.Scan.{scan};
+ghost use Rattle.bounds.specs.State.{stateRuns};
 ghost use Rattle.saves.specs.Lines.{layoutAt, due};
 ghost use Rattle.saves.specs.Load.{lineAt, row23, lineRows, clockOf, loadedNode, row10Read, textRows, loadedState};
 
@@ -124,11 +125,11 @@ pub(crate) fn clock_of(n: usize, text: &[u8]) -> Clock
 }
 
 // Node i, as its line holds it.
-fn node_at(h: &[f64], text: &[u8], i: usize) -> Node
-    requires { ⌜ (i < length (now h)) × (length (now h) ≤ 4096) ⌝ }
-    ensures { λ r. ⌜ r ≡ loadedNode (now (h .entry)) (now (text .entry)) i ⌝ }
+fn node_at(n: usize, h: &[f64], text: &[u8], i: usize) -> Node
+    requires { ⌜ (i < n) × (length (now h) ≡ n) × (n ≤ 4096) ⌝ }
+    ensures { λ r. ⌜ r ≡ loadedNode n (now (h .entry)) (now (text .entry)) i ⌝ }
 {
-    let values = reading::values(line_at(h.len(), text, i + 1));
+    let values = reading::values(line_at(n, text, i + 1));
     Node {
         h: h[i],
         earlier: patterns::float_of(values[0]),
@@ -139,12 +140,12 @@ fn node_at(h: &[f64], text: &[u8], i: usize) -> Node
 }
 
 // Row 10: the first loaded node that is out of its bounds.
-fn bounds(h: &[f64], text: &[u8]) -> Answer
-    requires { ⌜ length (now h) ≤ 4096 ⌝ }
-    ensures { λ r. ⌜ r ≡ scan (row10Read (now (h .entry)) (now (text .entry))) (length (now (h .entry))) ⌝ }
+fn bounds(n: usize, h: &[f64], text: &[u8]) -> Answer
+    requires { ⌜ (length (now h) ≡ n) × (n ≤ 4096) ⌝ }
+    ensures { λ r. ⌜ r ≡ scan (row10Read n (now (h .entry)) (now (text .entry))) n ⌝ }
 {
-    for i in 0..h.len() {
-        let answer = rows::tested(limits::in_bounds(node_at(h, text, i)), 10, i);
+    for i in 0..n {
+        let answer = rows::tested(limits::in_bounds(node_at(n, h, text, i)), 10, i);
         if answer.number != 0 {
             return answer;
         }
@@ -153,21 +154,20 @@ fn bounds(h: &[f64], text: &[u8]) -> Answer
 }
 
 // The rows of a text against a mesh: its lines, trailing bytes, the head's wind, the loaded values.
-pub(crate) fn text_rows(e: usize, h: &[f64], text: &[u8]) -> Answer
-    requires { ⌜ length (now h) ≤ 4096 ⌝ }
-    ensures { λ r. ⌜ r ≡ textRows (length (now (h .entry))) e (now (h .entry)) (now (text .entry)) ⌝ }
+pub(crate) fn text_rows(n: usize, e: usize, h: &[f64], text: &[u8]) -> Answer
+    requires { ⌜ (length (now h) ≡ n) × (n ≤ 4096) ⌝ }
+    ensures { λ r. ⌜ r ≡ textRows n e (now (h .entry)) (now (text .entry)) ⌝ }
 {
-    let n = h.len();
     let read = lines(n, e, text);
     let over = rows::tested(text.len() <= 70 + 73 * n, 20, n + 2);
     let wind = clocks::held_wind(clock_of(n, text));
-    let values = bounds(h, text);
+    let values = bounds(n, h, text);
     rows::first(read, rows::first(over, rows::first(wind, values)))
 }
 
 // Node i's values into the four runs.
 fn put_node(state: &mut [f64], n: usize, i: usize, c: Node)
-    requires { ⌜ (i < n) × (length (now state) ≡ 4 * n) ⌝ }
+    requires { ⌜ (i < n) × (length (now state) ≡ stateRuns * n) ⌝ }
     ensures { λ _. ⌜ now (state .exit) ≡ set (set (set (set (now (state .entry)) (0 * n + i) (c .earlier)) (1 * n + i) (c .z)) (2 * n + i) (c .u)) (3 * n + i) (c .v) ⌝ }
 {
     state[0 * n + i] = c.earlier;
@@ -177,12 +177,11 @@ fn put_node(state: &mut [f64], n: usize, i: usize, c: Node)
 }
 
 // The loaded state, where the text's rows have passed.
-pub(crate) fn fill(state: &mut [f64], h: &[f64], text: &[u8])
-    requires { ⌜ (length (now h) ≤ 4096) × (length (now state) ≡ 4 * length (now h)) ⌝ }
-    ensures { λ _. ⌜ now (state .exit) ≡ loadedState (now (h .entry)) (now (text .entry)) ⌝ }
+pub(crate) fn fill(state: &mut [f64], n: usize, h: &[f64], text: &[u8])
+    requires { ⌜ (n ≤ 4096) × (length (now h) ≡ n) × (length (now state) ≡ stateRuns * n) ⌝ }
+    ensures { λ _. ⌜ now (state .exit) ≡ loadedState n (now (h .entry)) (now (text .entry)) ⌝ }
 {
-    let n = h.len();
     for i in 0..n {
-        put_node(state, n, i, node_at(h, text, i));
+        put_node(state, n, i, node_at(n, h, text, i));
     }
 }

@@ -1,29 +1,32 @@
-use mathlib.Core.Path.{_≡_, _∙_}
-use mathlib.Core.Bool.{true}
+use mathlib.Core.Path.{_≡_, ap, _∙_}
+use Rattle.lists.specs.declared.rows.Answer.{Answer}
 use native.Mathlib.Omega.{arith}
 use borrow.Author.Needs.{needs}
 use borrow.Author.Tests.{leb-true}
 use lib.Ieee.{ofBits}
-use Rattle.lists.specs.Scan.{_then_}
+use Rattle.lists.specs.Scan.{accepted, _then_}
 use Rattle.lists.proofs.ScanLaws.{row-passed, then-rest, same-number, stops, goes}
 use Rattle.mesh.specs.Lent.{Mesh, mesh}
-use Rattle.bounds.specs.State.{rows1to10}
+use Rattle.bounds.specs.State.{runRows}
 use Rattle.bounds.proofs.StateLaws.{AcceptedRun, accepted-run}
 use Rattle.saves.specs.Save.{row24, saveAnswer}
 use Rattle.saves.proofs.SaveLaws.{save-refused, save-written}
 use Rattle.saves.proofs.save.Statement.{statement}
 use Rattle.saves.proofs.save.Tie as tie
 
-abbrev start : tie.After-rows-to-10 → tie.Start
-start c = c .before .before .before .before .before .before
+abbrev start : tie.After-run-rows → tie.Start
+start c = c .before .before .before .before .before .before .before
 
 abbrev net : tie.Start → Mesh
 net s = let a = s .args in mesh (a .x .now) (a .y .now) (a .tri .now) (a .h .now) (a .kind .now)
 
-passed : (c : tie.Else1) → let s = start (c .before .before) in rows1to10 true (net s) (s .args .p) (s .args .state .now) .number ≡ 0
-passed c = same-number (c .before .before .rows-to-10 .ensures) (c .if1 .left)
+checked : (c : tie.After-run-rows) → let s = start c in c .run-rows .result ≡ runRows accepted (net s) (s .args .p) (s .args .state .now)
+checked c = let s = start c in c .run-rows .ensures ∙ ap (λ (a : Answer). runRows a (net s) (s .args .p) (s .args .state .now)) (c .before .accept .ensures)
 
-run : (c : tie.Else1) → let s = start (c .before .before) in AcceptedRun true (net s) (s .args .p) (s .args .state .now)
+passed : (c : tie.Else1) → let s = start (c .before .before) in runRows accepted (net s) (s .args .p) (s .args .state .now) .number ≡ 0
+passed c = same-number (checked (c .before .before)) (c .if1 .left)
+
+run : (c : tie.Else1) → let s = start (c .before .before) in AcceptedRun accepted (net s) (s .args .p) (s .args .state .now)
 run c = accepted-run _ _ _ _ (passed c)
 
 -- with rows 12 and 24
@@ -34,7 +37,7 @@ answered c = goes _ (passed (c .before .before .before)) (c .first .ensures ∙ 
 
 returns : tie.Need-returns
 unfolding saveAnswer
-returns c = save-refused _ _ _ _ _ (stops _ (c .before .before .rows-to-10 .ensures) (c .if1 .taken)) (c .if1 .taken)
+returns c = save-refused _ _ _ _ _ (stops _ (checked (c .before .before)) (c .if1 .taken)) (c .if1 .taken)
 
 returns-2 : tie.Need-returns-2
 returns-2 c = save-refused _ _ _ _ _ (answered (c .before .before)) (c .if2 .taken)
@@ -45,7 +48,7 @@ write-requires c κs =
     let f = c .before .before .before in
     let its = run (f .before .before .before) in
     let fits = row-passed _ 23 _ (then-rest _ _ (then-rest _ _ (same-number (answered f) (c .before .if2 .left)))) in
-    (its .mesh .sized .most-nodes, its .long, leb-true _ _ fits)
+    (its .shape .sized .most-nodes, its .long, leb-true _ _ fits)
 
 returns-3 : tie.Need-returns-3
 unfolding ofBits
@@ -57,5 +60,6 @@ returns-3 c =
 pub save-spec : {M : Type 1} → statement M
 save-spec =
     tie.close
-    (tie.spec (λ c κs. tt) returns (λ c. omega (arith, run c .mesh .sized .most-nodes)) (λ c. omega (arith, run c .mesh .sized .most-nodes))
-    (λ c κs. tt) (λ c κs. tt) (λ c κs. tt) returns-2 write-requires (λ c. search needs) returns-3)
+    (tie.spec (λ c κs. tt) (λ c κs. tt) returns (λ c. omega (arith, run c .shape .sized .most-nodes))
+    (λ c. omega (arith, run c .shape .sized .most-nodes)) (λ c κs. tt) (λ c κs. tt) (λ c κs. tt) returns-2 write-requires (λ c. search needs)
+    returns-3)

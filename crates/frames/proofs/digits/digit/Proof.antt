@@ -7,4 +7,5 @@ use Rattle.frames.proofs.digits.digit.Tie as tie
 pub digit-spec : {M : Type 1} → statement M
 unfolding digit
 digit-spec =
-    tie.close (tie.spec (λ c. omega arith) (λ c. omega arith) (λ c. simp (lt-ltb _ _ (c .if1 .taken))) (λ c. simp (le-ltb _ _ (c .if1 .left))))
+    tie.close
+    (tie.spec (λ c. omega arith) (λ c. omega arith) (λ c. simp (lt-ltb _ _ (c .if1 .taken))) (λ c. simp (le-ltb _ _ (c .if1 .left))))

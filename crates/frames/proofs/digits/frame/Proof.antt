@@ -28,5 +28,6 @@ loop-again c =
 pub frame-spec : {M : Type 1} → statement M
 frame-spec =
     tie.close
-    (tie.spec Inv-loop μ-loop (λ c. (omega arith, refl, refl)) (λ c κs. omega arith) (λ c. omega arith) (λ c. omega arith) (λ c. omega arith) (λ c. omega arith) loop-again
+    (tie.spec Inv-loop μ-loop (λ c. (omega arith, refl, refl)) (λ c κs. omega arith) (λ c. omega arith) (λ c. omega arith) (λ c. omega arith)
+    (λ c. omega arith) loop-again
     (λ c. let last : c .before .loop .k ≡ 36 = omega arith in sym (take-all 36 (c .before .loop .out) (omega arith)) ∙ (rw last at (c .before .loop .inv .2))))

@@ -11,5 +11,5 @@ unfolding worth
 worth-spec =
     tie.close
     (tie.spec (λ c. leb-true _ _ (both-left _ _ (c .if1 .taken))) (λ c. rw (c .if1 .taken))
-    (λ c. let h : 65 ≤ c .before .before .args .d = leb-true _ _ (both-left _ _ (c .if2 .taken)) in omega arith) (λ c. rw (c .before .if1 .left, c .if2 .taken))
-    (λ c. rw (c .before .if1 .left, c .if2 .left)))
+    (λ c. let h : 65 ≤ c .before .before .args .d = leb-true _ _ (both-left _ _ (c .if2 .taken)) in omega arith)
+    (λ c. rw (c .before .if1 .left, c .if2 .taken)) (λ c. rw (c .before .if1 .left, c .if2 .left)))

@@ -4,9 +4,9 @@ use mathlib.Core.Logic.{⊎-elim}
 use native.Mathlib.Numerals.{add-one}
 use native.Mathlib.Omega.{arith}
 use borrow.Author.Needs.{needs}
-use lib.ListN.{length, take}
-use lib.Seq.{paste, paste-zero, paste-suc, length-paste, take-all}
-use Rattle.frames.specs.Building.{longest, written}
+use lib.ListN.{length, take, length-set}
+use lib.Seq.{paste, paste-zero, paste-suc, take-all, length-take-le}
+use Rattle.frames.specs.Building.{longest, written, laid}
 use Rattle.frames.proofs.BuildLaws.{put-fits, put-not}
 use Rattle.frames.proofs.lines.put.Statement.{statement}
 use Rattle.frames.proofs.lines.put.Tie as tie
@@ -17,16 +17,16 @@ Inv-loop text₀ at len n bytes k₀ text k = (k ≤ n) × (length text ≡ leng
 abbrev μ-loop : tie.MeasureT-loop
 μ-loop text₀ at len n bytes k₀ text k = n - k
 
--- n bytes of the line are written, all of them where its length is past its room
+-- n bytes of the line are written, all of them where its length is past its longest
 some : (c : tie.Joined1 Inv-loop μ-loop)
-    → let l = c .before .args .t3 in
-    (written l ≡ take (c .if1 .n) (l .bytes)) × (c .if1 .n ≤ length (l .bytes)) × (c .if1 .n ≤ longest)
+    → let l = c .before .args .line in
+    (written l ≡ take (c .if1 .n) (l .bytes)) × (length (l .bytes) ≡ longest) × (c .if1 .n ≤ longest)
 unfolding written
 some c =
-    let l = c .before .args .t3 in
+    let l = c .before .args .line in
     let z : length (l .bytes) ≡ longest = search needs in
-    ⊎-elim (λ w. (rw (w .1), omega arith, omega arith))
-    (λ w. (rw (w .1) (take-all (l .len) (l .bytes) (omega arith) ∙ sym (take-all longest (l .bytes) (omega arith))), omega arith, omega arith)) (c .if1 .came)
+    ⊎-elim (λ w. (rw (w .1), z, omega arith))
+    (λ w. (rw (w .1) (take-all (l .len) (l .bytes) (omega arith) ∙ sym (take-all longest (l .bytes) (omega arith))), z, omega arith)) (c .if1 .came)
 
 long : (c : tie.Joined1 Inv-loop μ-loop) → length (take (c .if1 .n) (c .before .args .line .bytes)) ≡ c .if1 .n
 long c = length-take-le _ _ (omega (arith, some c))
@@ -51,6 +51,8 @@ returns-3 c =
 pub put-spec : {M : Type 1} → statement M
 put-spec =
     tie.close
-    (tie.spec Inv-loop μ-loop (λ c. sym (put-not _ _ _ (some (c .before) .0) (rw (long (c .before)) (omega arith)))) (λ c. omega arith) (λ c. let j = c .before .before .before in sym (put-not _ _ _ (some j .0) (rw (long j) (omega arith)))) (λ c. (omega arith, refl, let a = c .before .before .before .before .before .args in paste-zero (a .text .now) (a .at) (a .line .bytes)))
-    (λ c. omega (arith, some (c .before .before .before .before .before .before) .2)) (λ c. omega arith)
-    (λ c. omega arith) (λ c. omega arith) (λ c. omega arith) loop-again (λ c. omega arith) (λ c. c .before .loop .inv .1) returns-3)
+    (tie.spec Inv-loop μ-loop (λ c. sym (put-not _ _ _ (some (c .before) .0) (rw (long (c .before)) (omega arith)))) (λ c. omega arith)
+    (λ c. let j = c .before .before .before in sym (put-not _ _ _ (some j .0) (rw (long j) (omega arith))))
+    (λ c. (omega arith, refl, let a = c .before .before .before .before .before .args in paste-zero (a .text .now) (a .at) (a .line .bytes)))
+    (λ c. omega (arith, some (c .before .before .before .before .before .before) .2)) (λ c. omega arith) (λ c. omega arith) (λ c. omega arith)
+    (λ c. omega arith) loop-again (λ c. omega arith) (λ c. c .before .loop .inv .1) returns-3)

@@ -14,4 +14,5 @@ unfolding nanBits
 float-of-spec =
     tie.close
     (tie.spec (λ c. nan-made ∙ sym (only-nan _ (sym (nanBits-is binary64 _) ∙ rw (eq-eqb _ _ (c .before .if1 .taken), ne-eqb _ _ (c .if2 .taken)))))
-    (λ c. ⊎-elim (λ w. rw (eq-eqb _ _ (w .0 .taken), eq-eqb _ _ (w .1 .left)) tt) (λ w. rw (ne-eqb _ _ (w .left)) tt) (c .if1 .came)) (λ c. search needs))
+    (λ c. ⊎-elim (λ w. rw (eq-eqb _ _ (w .0 .taken), eq-eqb _ _ (w .1 .left)) tt) (λ w. rw (ne-eqb _ _ (w .left)) tt) (c .if1 .came))
+    (λ c. search needs))

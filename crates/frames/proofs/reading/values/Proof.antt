@@ -19,5 +19,5 @@ unfolding values
 values-spec =
     tie.close
     (tie.spec (λ c κs. tt) (λ c κs. tt) (λ c κs. tt) (λ c κs. tt)
-    (λ c. rw (c .value4 .ensures, c .before .value3 .ensures, c .before .before .value2 .ensures, c .before .before .before .value .ensures)) (λ c κs. omega arith) (λ c κs. lit≤ tt) (λ c κs. lit≤ tt) (λ c κs. lit≤ tt)
-    (λ c κs. lit≤ tt) returns-2)
+    (λ c. rw (c .value4 .ensures, c .before .value3 .ensures, c .before .before .value2 .ensures, c .before .before .before .value .ensures))
+    (λ c κs. omega arith) (λ c κs. lit≤ tt) (λ c κs. lit≤ tt) (λ c κs. lit≤ tt) (λ c κs. lit≤ tt) returns-2)

@@ -10,13 +10,13 @@ use Rattle.saves.proofs.loading.bounds.Tie as tie
 
 -- no node passed so far refuses
 abbrev Inv-loop : tie.InvT-loop
-Inv-loop h text i₀ i-end i = (i ≤ i-end) × ((k : ℕ) → k < i → row10Read h text k .number ≡ 0)
+Inv-loop n h text i₀ i = (i ≤ n) × ((k : ℕ) → k < i → row10Read n h text k .number ≡ 0)
 
 abbrev μ-loop : tie.MeasureT-loop
-μ-loop h text i₀ i-end i = i-end - i
+μ-loop n h text i₀ i = n - i
 
 its : (c : tie.After-tested Inv-loop μ-loop) → let l = c .before .before .before .before in
-    let a = l .before .before .before .args in c .tested .result ≡ row10Read (a .h .now) (a .text .now) (l .loop .i)
+    let a = l .before .before .before .args in c .tested .result ≡ row10Read (a .n) (a .h .now) (a .text .now) (l .loop .i)
 its c = rw (c .tested .ensures, c .before .in-bounds .ensures, c .before .before .node-at .ensures)
 
 returns : tie.Need-returns Inv-loop μ-loop
@@ -36,5 +36,5 @@ returns-2 c = c .accept .ensures ∙ sym (scan-none _ _ (λ k h. c .before .befo
 pub bounds-spec : {M : Type 1} → statement M
 bounds-spec =
     tie.close
-    (tie.spec Inv-loop μ-loop (λ c. (search needs, below-none _)) (λ c κs. search needs) (λ c κs. tt) (λ c κs. tt) returns (λ c. search needs) (λ c. search needs)
-    loop-again (λ c κs. tt) returns-2)
+    (tie.spec Inv-loop μ-loop (λ c. (search needs, below-none _)) (λ c κs. search needs) (λ c κs. tt) (λ c κs. tt) returns (λ c. search needs)
+    (λ c. search needs) loop-again (λ c κs. tt) returns-2)

@@ -30,7 +30,4 @@ returns-3 c =
     rw (c .tested2 .ensures, f .value3 .ensures, q, last)
 
 pub counts-spec : {M : Type 1} → statement M
-counts-spec =
-    tie.close
-    (tie.spec (λ c κs. tt) (λ c κs. tt) (λ c κs. tt) returns (λ c κs. tt) returns-2 (λ c κs. tt)
-    (λ c κs. tt) returns-3)
+counts-spec = tie.close (tie.spec (λ c κs. tt) (λ c κs. tt) (λ c κs. tt) returns (λ c κs. tt) returns-2 (λ c κs. tt) (λ c κs. tt) returns-3)

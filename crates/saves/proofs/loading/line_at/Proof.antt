@@ -15,4 +15,6 @@ returns-2 c =
     rw (c .part2 .ensures, d .due .ensures .0, start-at (s .args .n) (s .args .j) (d .before .if1 .left) (s .pre .1))
 
 pub line-at-spec : {M : Type 1} → statement M
-line-at-spec = tie.close (tie.spec (λ c κs. tt) returns (λ c. search needs) (λ c. search needs) (λ c. search needs) (λ c κs. tt) (λ c. search needs) (λ c κs. tt) returns-2)
+line-at-spec =
+    tie.close
+    (tie.spec (λ c κs. tt) returns (λ c. search needs) (λ c. search needs) (λ c. search needs) (λ c κs. tt) (λ c. search needs) (λ c κs. tt) returns-2)

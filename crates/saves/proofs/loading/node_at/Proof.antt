@@ -17,5 +17,5 @@ returns c =
 pub node-at-spec : {M : Type 1} → statement M
 node-at-spec =
     tie.close
-    (tie.spec (λ c. search needs) (λ c κs. search needs) (λ c κs. tt) (λ c. search needs) (λ c. search needs) (λ c. search needs) (λ c κs. tt) (λ c. search needs) (λ c κs. tt)
-    (λ c. search needs) (λ c κs. tt) (λ c. search needs) (λ c κs. tt) returns)
+    (tie.spec (λ c. search needs) (λ c κs. search needs) (λ c κs. tt) (λ c. search needs) (λ c. search needs) (λ c. search needs) (λ c κs. tt)
+    (λ c. search needs) (λ c κs. tt) (λ c. search needs) (λ c κs. tt) (λ c. search needs) (λ c κs. tt) returns)

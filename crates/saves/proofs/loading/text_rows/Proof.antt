@@ -12,5 +12,5 @@ returns c =
 pub text-rows-spec : {M : Type 1} → statement M
 text-rows-spec =
     tie.close
-    (tie.spec (λ c κs. search needs) (λ c. search needs) (λ c. search needs) (λ c. search needs) (λ c κs. tt) (λ c κs. search needs)
-    (λ c κs. tt) (λ c κs. search needs) (λ c κs. tt) (λ c κs. tt) (λ c κs. tt) returns)
+    (tie.spec (λ c κs. search needs) (λ c. search needs) (λ c. search needs) (λ c. search needs) (λ c κs. tt) (λ c κs. search needs) (λ c κs. tt)
+    (λ c κs. search needs) (λ c κs. tt) (λ c κs. tt) (λ c κs. tt) returns)

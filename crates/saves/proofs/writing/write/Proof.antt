@@ -45,5 +45,5 @@ returns c =
 pub write-spec : {M : Type 1} → statement M
 write-spec =
     tie.close
-    (tie.spec Inv-loop μ-loop (λ c. omega arith) loop-holds (λ c κs. search needs) (λ c κs. tt) (λ c. omega arith) (λ c. omega arith)
-    loop-again same-length returns)
+    (tie.spec Inv-loop μ-loop (λ c. omega arith) loop-holds (λ c κs. search needs) (λ c κs. tt) (λ c. omega arith) (λ c. omega arith) loop-again
+    same-length returns)

@@ -11,8 +11,8 @@ use Rattle.frames.proofs.lines.Line.append.Statement.{statement}
 use Rattle.frames.proofs.lines.Line.append.Tie as tie
 
 abbrev Inv-loop : tie.InvT-loop
-Inv-loop width value at line₀ rest₀ left₀ line rest left =
-    (left ≤ width) × (length (line .bytes) ≡ longest) × (laid (line .bytes) at (digits (field left rest)) ≡ laid (line₀ .bytes) at (digits (field width value)))
+Inv-loop width value at bytes₀ rest₀ left₀ len bytes rest left =
+    (left ≤ 2 * width) × (length bytes ≡ longest) × (laid bytes at (hex left rest) ≡ laid bytes₀ at (hex (2 * width) value))
 
 abbrev μ-loop : tie.MeasureT-loop
 μ-loop width value at bytes₀ rest₀ left₀ len bytes rest left = left
@@ -40,6 +40,6 @@ returns-3 c =
 pub append-spec : {M : Type 1} → statement M
 append-spec =
     tie.close
-    (tie.spec Inv-loop μ-loop (λ c. sym (appended-full _ _ (rw field-digits (omega arith)))) (λ c. sym (appended-full _ _ (rw field-digits (omega arith))))
-    (λ c. omega arith) (λ c. omega arith) (λ c. (omega arith, search needs, refl)) (λ c. omega arith) (λ c. omega arith) (λ c κs. omega arith)
-    (λ c. omega arith) (λ c. omega arith) (λ c. omega arith) loop-again returns-3)
+    (tie.spec Inv-loop μ-loop (λ c. sym (appended-full _ _ (rw field-digits (omega arith))))
+    (λ c. sym (appended-full _ _ (rw field-digits (omega arith)))) (λ c. omega arith) (λ c. omega arith) (λ c. (omega arith, search needs, refl))
+    (λ c. omega arith) (λ c. omega arith) (λ c κs. omega arith) (λ c. omega arith) (λ c. omega arith) (λ c. omega arith) loop-again returns-3)

@@ -3,21 +3,12 @@ use native.Mathlib.Nat.{sub-zero}
 use native.Mathlib.Omega.{arith}
 use borrow.Author.Needs.{needs}
 use lib.ListN.{length}
-use Rattle.frames.specs.Building.{longest, written}
+use Rattle.frames.specs.Bytes.{digits}
+use Rattle.frames.specs.Building.{longest, written, sealed}
 use Rattle.frames.specs.Reading.{tallied}
 use Rattle.frames.proofs.BuildLaws.{appended-full, sealed-room}
 use Rattle.frames.proofs.lines.Line.seal.Statement.{statement}
 use Rattle.frames.proofs.lines.Line.seal.Tie as tie
-
-returns : tie.Need-returns
-returns c = sym (sealed-full (c .before .args .self) (omega arith))
-
-part-tallied-end : tie.Need-part-tallied-end
-part-tallied-end c = let z : length (c .before .before .before .args .self .bytes) ≡ longest = search needs in search needs
-
-sub-append : tie.Need-sub-append
-unfolding tallied
-sub-append c = rw (c .before .tallied .ensures) (omega arith)
 
 returns-2 : tie.Need-returns-2
 unfolding tallied written
@@ -31,5 +22,5 @@ unfolding tallied sealed digits
 seal-spec =
     tie.close
     (tie.spec (λ c. sym (appended-full _ _ (omega arith))) (λ c. omega arith) (λ c. omega arith)
-    (λ c. let z : length (c .before .before .before .args .self .bytes) ≡ room = search needs in omega arith) (λ c κs. tt)
+    (λ c. let z : length (c .before .before .before .args .self .bytes) ≡ longest = search needs in omega arith) (λ c κs. tt)
     (λ c. rw (c .before .tallied .ensures) (omega arith)) (λ c κs. tt) (λ c. omega arith) (λ c. omega arith) (λ c. omega arith) returns-2)
