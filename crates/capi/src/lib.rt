@@ -7,9 +7,9 @@ use surge::Clock;
 use surge::Reply;
 ghost use mathlib.Core.Path.{_≡_};
 ghost use Rattle.mesh.specs.Lent.{mesh};
-ghost use Rattle.surge.specs.Lent.{after};
+ghost use Rattle.surge.specs.Lent.{run, after};
 ghost use Rattle.surge.specs.Open.{openOf};
-ghost use Rattle.surge.specs.Step.{given, stepOut, stepOf};
+ghost use Rattle.surge.specs.Step.{stepOut, stepOf};
 ghost use Rattle.passes.specs.Settle.{lentRooms};
 ghost use Rattle.saves.specs.Save.{saveOut, saveOf};
 ghost use Rattle.saves.specs.Load.{loadOf};
@@ -86,7 +86,7 @@ pub extern "C" fn surge_step(
     wx_new: f64,
     wy_new: f64,
 ) -> u32
-    ensures { λ r. ⌜ stepOut (reply (answer r (now (place .exit)) (now (value .exit))) (clock (now (step .exit)) (now (wx .exit)) (now (wy .exit)))) (now (next .exit)) (now (work .exit)) (now (sums .exit)) ≡ stepOf (given (mesh (now (x .entry)) (now (y .entry)) (now (tri .entry)) (now (h .entry)) (now (kind .entry))) (parameters dt tau k f) (now (state .entry)) (clock (now (step .entry)) (now (wx .entry)) (now (wy .entry))) (forcing elevation «wx_new» «wy_new»)) (lentRooms (now (next .entry)) (now (work .entry)) (now (sums .entry))) ⌝ }
+    ensures { λ r. ⌜ stepOut (reply (answer r (now (place .exit)) (now (value .exit))) (clock (now (step .exit)) (now (wx .exit)) (now (wy .exit)))) (now (next .exit)) (now (work .exit)) (now (sums .exit)) ≡ stepOf (mesh (now (x .entry)) (now (y .entry)) (now (tri .entry)) (now (h .entry)) (now (kind .entry))) (parameters dt tau k f) (run (now (state .entry)) (clock (now (step .entry)) (now (wx .entry)) (now (wy .entry)))) (forcing elevation «wx_new» «wy_new») (lentRooms (now (next .entry)) (now (work .entry)) (now (sums .entry))) ⌝ }
 {
     let p = Parameters { dt, tau, k, f };
     let c = Clock {

@@ -8,10 +8,10 @@ use Rattle.limits.specs.Limits.{isNode, row9}
 use Rattle.surge.specs.Lent.{coldState, coldClock, after}
 use Rattle.mesh.specs.Geometry.{sides}
 use Rattle.geometry.specs.Geometry.{allNear}
-use Rattle.mesh.specs.Rows.{row1, row2, allBelow, row3, row4, row5, rows3to5, isLeg, row6, row6If, isNamed, row7, row8, rows1to9}
+use Rattle.mesh.specs.Rows.{row1, row2, allBelow, row3, row4, row5, triangleRows, isLeg, row6, isNamed, row7, row8, shapeRows, nodeRows, openRows}
 use Rattle.surge.specs.Open.{openAnswer, openOf}
 use Rattle.forcelog.specs.MeshT.{T, T-parameters}
 
 pub T-opens : openOf T T-parameters (zeros 12) ≡ after (record { answer = accepted; clock = coldClock }) (coldState 3)
-unfolding openOf openAnswer T T-parameters table row _then_ scan some within decimal minus round le lt eq sides allNear row1 row2 allBelow row3 row4 row5 rows3to5 isLeg row6 row6If isNamed row7 isNode row8 row9 rows1to9
+unfolding openOf openAnswer T T-parameters table row _then_ scan some within decimal minus round le lt eq sides allNear row1 row2 allBelow row3 row4 row5 triangleRows isLeg row6 isNamed row7 isNode row8 row9 shapeRows nodeRows openRows
 T-opens = refl

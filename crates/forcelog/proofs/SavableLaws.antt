@@ -8,16 +8,18 @@ use lib.Dec.{lit≤}
 use lib.ListN.{length, drop}
 use lib.Seq.{drop-length}
 use Rattle.lists.specs.Table.{table}
+use Rattle.lists.specs.Scan.{row}
 use Rattle.lists.proofs.ScanLaws.{row-holds, same-number}
 use Rattle.limits.specs.Limits.{row11, row12Held}
 use Rattle.mesh.specs.Lent.{N}
-use Rattle.surge.specs.Lent.{After}
+use Rattle.surge.specs.Lent.{run, After, windOf}
 use Rattle.surge.specs.Open.{openAnswer, openOf}
-use Rattle.bounds.specs.State.{rows1to10}
-use Rattle.surge.specs.State.{windOf}
-use Rattle.surge.specs.Step.{Given, given, advance, stepOf}
-use Rattle.passes.specs.Settle.{Rooms, roomy}
-use Rattle.surge.proofs.KeptLaws.{WentOn, went-on, next-rows, next-wind, cold-rows, cold-wind, opened-mesh}
+use Rattle.bounds.specs.State.{runRows}
+use Rattle.surge.specs.Step.{advance}
+use Rattle.passes.specs.Settle.{row1Rooms}
+use Rattle.surge.proofs.StepLaws.{went-on}
+use Rattle.surge.proofs.NextLaws.{next-rows, next-wind}
+use Rattle.surge.proofs.ColdLaws.{cold-rows, cold-wind, opened-mesh}
 use Rattle.forcings.specs.Forcings.{takenOf}
 use Rattle.saves.specs.Save.{saveAnswer, saveOut, wrote, saveOf}
 use Rattle.saves.proofs.SaveLaws.{save-fine}
@@ -46,19 +48,24 @@ cold-lines = lit≤ tt
 pub take-savable : (line : List ℕ) (log : Log) → Savable log → takeOf line log .answer .number ≡ 0 → Savable (takeOf line log .log)
 unfolding stepped advance
 take-savable line log k h =
-    let g = given T T-parameters (log .state) (log .clock) (takenOf line (log .lines) .forcing) in
+    let s = run (log .state) (log .clock) in
+    let f = takenOf line (log .lines) .forcing in
     let took = took-step line log h in
-    let on = went-on g rooms (eq-eqb _ _ (took .0)) in
+    let on = went-on T T-parameters s f rooms (eq-eqb _ _ (took .0)) in
     rw (took .1, on .out)
-    (record { rows = next-rows g _ (on .first) (on .last); wind = next-wind g _ (on .first) (on .last); steps = ap (λ (n : ℕ). n + 1) (k .steps) })
+    (record { rows = next-rows T T-parameters s f rooms (on .first) (on .last); wind = next-wind T T-parameters s f rooms (on .first) (on .last); steps = ap (λ (n : ℕ). n + 1) (k .steps) })
+
+may-count : (step : ℕ) → (step ≡ 4294967295 → ⊥) → row11 step .number ≡ 0
+unfolding row11
+may-count step h = same-number (sym (row-holds 11 0 (rw (ne-eqb _ _ h)))) refl
 
 -- ---- why no line is refused by 10 or 11: of such a log, while a line is left, a step passes all rows before 12 for its forcing
 pub next-may : (log : Log) → Savable log → log .lines < 65536
-    → (rows1to10 (roomy rooms (N T)) T T-parameters (log .state) .number ≡ 0) × (row11 (log .clock .step) .number ≡ 0) × (row12Held (windOf (log .clock)) .number ≡ 0)
-unfolding table T row11
+    → (runRows (row1Rooms rooms (N T)) T T-parameters (log .state) .number ≡ 0) × (row11 (log .clock .step) .number ≡ 0) × (row12Held (windOf (log .clock)) .number ≡ 0)
+unfolding table T row
 next-may log k h =
     let few : log .clock .step ≡ 4294967295 → ⊥ = λ e. absurd (omega (arith, e, k .steps)) in
-    (k .rows, same-number (sym (row-holds 11 0 (rw (ne-eqb _ _ few)))) refl, k .wind)
+    (k .rows, may-count (log .clock .step) few, k .wind)
 
 -- ---- what the program's loop goes on with: a line that is taken is counted, was not past the last, and leaves a log that can be saved
 pub taken-on : (line : List ℕ) (log : Log) (t : Took) → Savable log → t ≡ takeOf line log → t .answer .number ≡ 0

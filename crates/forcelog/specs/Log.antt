@@ -6,8 +6,8 @@ use lib.Dec.{eqb}
 use Rattle.lists.specs.declared.rows.Answer.{Answer}
 use Rattle.lists.specs.Table.{table, zeros}
 use Rattle.equations.specs.declared.Forcing.{Forcing}
-use Rattle.surge.specs.Lent.{coldState, coldClock}
-use Rattle.surge.specs.Step.{StepOut, given, stepOf}
+use Rattle.surge.specs.Lent.{run, coldState, coldClock}
+use Rattle.surge.specs.Step.{StepOut, stepOf}
 use Rattle.passes.specs.Settle.{Rooms, lentRooms}
 use Rattle.forcings.specs.declared.Taken.{Taken}
 use Rattle.forcings.specs.Forcings.{takenOf}
@@ -25,7 +25,7 @@ abbrev pub rooms : Rooms
 rooms = lentRooms (zeros 12) (zeros 9) (table 3 (λ _. 0))
 
 unfoldable pub stepped : Log → Forcing → StepOut
-stepped log f = stepOf (given T T-parameters (log .state) (log .clock) f) rooms
+stepped log f = stepOf T T-parameters (run (log .state) (log .clock)) f rooms
 
 -- "R the number and P the input line from 0"
 abbrev pub refusedAt : Answer → Log → Took

@@ -12,14 +12,14 @@ use Rattle.lists.specs.declared.rows.Answer.{Answer}
 use Rattle.lists.specs.Table.{table}
 use Rattle.lists.specs.Numbers.{plus0, decimal}
 use Rattle.lists.specs.Scan.{accepted, refused}
-use Rattle.surge.specs.Lent.{After}
+use Rattle.surge.specs.Lent.{Run, run, After}
 use Rattle.surge.specs.Open.{openOf}
-use Rattle.surge.specs.Step.{Held, StepOut, given, stepOf, stepOut}
+use Rattle.surge.specs.Step.{StepOut, stepOf, stepOut}
 use Rattle.frames.specs.Frames.{bits}
 use Rattle.saves.specs.Save.{saveOf, wrote}
 use Rattle.saves.specs.Load.{loadOf}
 use Rattle.history.specs.History.{Written, Call, step, save, load, Saved, History, begun, latest, after, AllOwn, along}
-use Rattle.statements.specs.Demand3.{Weather, accepts, run, saved}
+use Rattle.statements.specs.Demand3.{Weather, accepts, saved}
 use Rattle.statements.specs.RoundTrip.{gives}
 use Rattle.statements.specs.Examples.{Outcome, stepped, T, T-parameters, T-rooms}
 use Rattle.statements.specs.Computed.{on-T, east, north, lull, flood, text-room, text, calls, at, end, answer, ComputedHolds}
@@ -31,7 +31,7 @@ abbrev three : Float → List Float
 three v = v ∷ v ∷ v ∷ []
 
 -- after the first step: U is 1/1024
-abbrev first : Held
+abbrev first : Run
 first = record {
   state = three plus0 ++ three plus0 ++ three (fin false 1 (negsuc 9)) ++ three plus0;
   clock = record { step = 1; wx = fin false 1 (negsuc 5); wy = plus0 };
@@ -44,14 +44,14 @@ abbrev u-second : Float
 u-second = fin false 4397566877743685 (negsuc 60)
 
 -- after a second step with (0, 0, 0)
-abbrev lulled : Held
+abbrev lulled : Run
 lulled = record {
   state = three plus0 ++ z-second ++ three u-second ++ three (fin true 6786095976115901 (negsuc 67));
   clock = record { step = 2; wx = plus0; wy = plus0 };
 }
 
 -- after a second step with (0, 0, 1/64)
-abbrev turned : Held
+abbrev turned : Run
 turned = record {
   state = three plus0 ++ z-second ++ three u-second
       ++ (fin false 4397830775997139 (negsuc 61) ∷ fin false 8794606020827991 (negsuc 62) ∷ fin false 4397566877743685 (negsuc 61) ∷ []);
@@ -59,12 +59,12 @@ turned = record {
 }
 
 -- a step's outcome where it is accepted: the run is taken up, and the work room is zero as it was
-abbrev went : Held → StepOut
+abbrev went : Run → StepOut
 went r = stepOut (record { answer = accepted; clock = r .clock }) (r .state) (T-rooms .work) (T-rooms .sums)
 
 -- ---- each call, from the run before it in numbers
-abbrev stepping : Held → Weather → StepOut
-stepping r f = stepOf (given T T-parameters (r .state) (r .clock) (f .forcing)) T-rooms
+abbrev stepping : Run → Weather → StepOut
+stepping r f = stepOf T T-parameters r (f .forcing) T-rooms
 
 opens : openOf T T-parameters (table 12 (λ _. decimal 7 1)) ≡ gives (on-T .cold .state) (on-T .cold .clock)
 unfolding arithmetic tables the-rows the-calls

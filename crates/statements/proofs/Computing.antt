@@ -1,7 +1,7 @@
 -- What a proof by computation looks through, in groups: each name below opens all that its line names.
 use lib.Ieee.{le, lt, eq, round, toBits, ofBits, add, sub, mul, div, neg, ofInt}
 use Rattle.lists.specs.Table.{table}
-use Rattle.lists.specs.Runs.{room}
+use Rattle.lists.specs.Runs.{runsOf}
 use Rattle.lists.specs.Scan.{row, _then_, scan, some}
 use Rattle.lists.specs.Numbers.{within, decimal, minus}
 use Rattle.lists.specs.Gather.{joined, gathered}
@@ -14,12 +14,12 @@ use Rattle.frames.specs.Reading.{value, isFramed, row20, row21, row22, fault}
 use Rattle.limits.specs.Limits.{isNode, row9, inBounds, row11, row12Held, row12New}
 use Rattle.mesh.specs.Geometry.{sides, area}
 use Rattle.geometry.specs.Geometry.{allNear, floats}
-use Rattle.mesh.specs.Rows.{row1, row2, allBelow, row3, row4, row5, rows3to5, isLeg, row6, row6If, isNamed, row7, row8, rows1to9}
+use Rattle.mesh.specs.Rows.{row1, row2, allBelow, row3, row4, row5, triangleRows, isLeg, row6, isNamed, row7, row8, shapeRows, nodeRows, meshRows, openRows}
 use Rattle.surge.specs.Open.{openAnswer, openOf}
-use Rattle.bounds.specs.State.{row10, rows1to10}
+use Rattle.bounds.specs.State.{row10, runRows}
 use Rattle.passes.specs.Equations.{riseOf, flowOf, sharesAt, rise, slopeX, slopeY, flowAt, nextState}
-use Rattle.passes.specs.Row13.{row13Level, speedOf, row13Flow, row13}
-use Rattle.surge.specs.Step.{advance, before13, stepsTo, stepOf}
+use Rattle.passes.specs.Row13.{riseRow, flowRow, row13}
+use Rattle.surge.specs.Step.{advance, clockRows, stepRows, stepsTo, stepOf}
 use Rattle.saves.specs.Lines.{startOf}
 use Rattle.saves.specs.Save.{lineOf, linesTo, row24, saveAnswer, saveOf}
 use Rattle.saves.specs.Load.{row23, lineRows, clockOf, loadedNode, loadAnswer, loadedState, loadOf}
@@ -29,11 +29,11 @@ unfolding round le lt eq add sub mul div neg ofInt toBits ofBits decimal minus w
 arithmetic = tt
 
 unfoldable pub tables : Unit {0}
-unfolding table room row _then_ scan some joined gathered
+unfolding table runsOf row _then_ scan some joined gathered
 tables = tt
 
 unfoldable pub the-rows : Unit {0}
-unfolding sides allNear row1 row2 allBelow row3 row4 row5 rows3to5 isLeg row6 row6If isNamed row7 isNode row8 row9 rows1to9 inBounds row10 rows1to10 row11 row12Held row12New
+unfolding sides allNear row1 row2 allBelow row3 row4 row5 triangleRows isLeg row6 isNamed row7 isNode row8 row9 shapeRows nodeRows meshRows openRows inBounds row10 runRows row11 row12Held row12New
 the-rows = tt
 
 unfoldable pub the-formulas : Unit {0}
@@ -41,7 +41,7 @@ unfolding z* Hi qx qy mean slope means Jx Jy corner shares L z′ H H′ r p m q
 the-formulas = tt
 
 unfoldable pub the-equations : Unit {0}
-unfolding sides area floats riseOf flowOf sharesAt rise slopeX slopeY flowAt nextState row13Level speedOf row13Flow row13 advance
+unfolding sides area floats riseOf flowOf sharesAt rise slopeX slopeY flowAt nextState riseRow flowRow row13 advance
 the-equations = tt
 
 unfoldable pub the-frames : Unit {0}
@@ -49,5 +49,5 @@ unfolding digit digits byte bytes worth allDigits field number sum check text fi
 the-frames = tt
 
 unfoldable pub the-calls : Unit {0}
-unfolding openAnswer openOf before13 stepsTo stepOf startOf lineOf linesTo row24 saveAnswer saveOf row23 lineRows clockOf loadedNode loadAnswer loadedState loadOf
+unfolding openAnswer openOf clockRows stepRows stepsTo stepOf startOf lineOf linesTo row24 saveAnswer saveOf row23 lineRows clockOf loadedNode loadAnswer loadedState loadOf
 the-calls = tt

@@ -2,22 +2,23 @@
 use Prim.Native.Nat.{ℕ}
 use mathlib.Core.Path.{refl, sym, subst}
 use mathlib.Core.List.{List}
-use native.Mathlib.Omega.{arith}
 use borrow.Author.Tests.{eq-eqb, ne-eqb}
 use lib.Ieee.{Float}
 use Rattle.lists.proofs.ScanLaws.{then-stop, then-next}
 use Rattle.equations.specs.declared.Parameters.{Parameters}
 use Rattle.surge.specs.declared.Clock.{Clock}
-use Rattle.mesh.specs.Lent.{Mesh, N}
+use Rattle.mesh.specs.Lent.{Mesh}
 use Rattle.surge.specs.Open.{openOf}
-use Rattle.surge.specs.Step.{Given, seaOf, refusedBefore, refusedBy13, wentOn, stepOf}
-use Rattle.passes.specs.Settle.{Rooms, roomy}
+use Rattle.equations.specs.declared.Forcing.{Forcing}
+use Rattle.surge.specs.Lent.{Run}
+use Rattle.surge.specs.Step.{givenOf, refusedBefore, refusedBy13, wentOn, stepOf}
+use Rattle.passes.specs.Settle.{Rooms}
 use Rattle.saves.specs.Save.{saveOf}
 use Rattle.saves.specs.Load.{loadOf}
 use Rattle.forcings.specs.Forcings.{takenOf}
 use Rattle.statements.specs.Demand1.{Accepts, Refuses, OpenSays, StepSays, SaveSays, LoadSays, ForcingSays, OpenKeepsDemand1, StepKeepsDemand1, SaveKeepsDemand1, LoadKeepsDemand1, ForcingKeepsDemand1}
-use Rattle.surge.proofs.NumberLaws.{before-13, only-13}
-use Rattle.surge.proofs.KeptLaws.{early, late, step-cases}
+use Rattle.surge.proofs.NumberLaws.{not-13, only-13}
+use Rattle.surge.proofs.StepLaws.{early, late, step-cases}
 use Rattle.saves.proofs.LoadLaws.{load-cases}
 
 open-says : (m : Mesh) (p : Parameters) (state : List Float) → OpenSays m p state (openOf m p state)
@@ -30,30 +31,30 @@ open-says m p state = record {
 }
 
 -- ---- step
-module _ (g : Given) (r : Rooms) where
-  refused-before : Refuses (early g r) → StepSays g r (refusedBefore g r (early g r))
+module _ (m : Mesh) (p : Parameters) (s : Run) (f : Forcing) (r : Rooms) where
+  refused-before : Refuses (early m p s f r) → StepSays m p s f r (refusedBefore m p s f r (early m p s f r))
   refused-before h = record {
-    answer = sym (then-stop (early g r) (late g r) h);
+    answer = sym (then-stop (early m p s f r) (late m p s f r) h);
     next = λ _. refl;
     clock = λ _. refl;
     untouched = λ _ _. (refl, refl);
-    by-13 = λ e. absurd (omega (arith, e, before-13 (roomy r (N (g .mesh))) g));
+    by-13 = λ e. absurd (not-13 m p s f r e);
     accepted = λ e. absurd (h e);
   }
 
-  refused-13 : Accepts (early g r) → Refuses (late g r) → StepSays g r (refusedBy13 g r (late g r))
+  refused-13 : Accepts (early m p s f r) → Refuses (late m p s f r) → StepSays m p s f r (refusedBy13 m p s f r (late m p s f r))
   refused-13 h k = record {
-    answer = sym (then-next (early g r) (late g r) h);
+    answer = sym (then-next (early m p s f r) (late m p s f r) h);
     next = λ _. refl;
     clock = λ _. refl;
-    untouched = λ _ n. absurd (n (only-13 (seaOf g) (g .mesh .kind) (g .forcing) k));
+    untouched = λ _ n. absurd (n (only-13 (givenOf m p s f) k));
     by-13 = λ _. (refl, refl);
     accepted = λ e. absurd (k e);
   }
 
-  went-on : Accepts (early g r) → Accepts (late g r) → StepSays g r (wentOn g (late g r))
+  went-on : Accepts (early m p s f r) → Accepts (late m p s f r) → StepSays m p s f r (wentOn m p s f r (late m p s f r))
   went-on h k = record {
-    answer = sym (then-next (early g r) (late g r) h);
+    answer = sym (then-next (early m p s f r) (late m p s f r) h);
     next = λ e. absurd (e k);
     clock = λ e. absurd (e k);
     untouched = λ e _. absurd (e k);
@@ -61,8 +62,8 @@ module _ (g : Given) (r : Rooms) where
     accepted = λ _. (refl, refl);
   }
 
-  step-says : StepSays g r (stepOf g r)
-  step-says = step-cases g r (StepSays g r) went-on refused-13 refused-before
+  step-says : StepSays m p s f r (stepOf m p s f r)
+  step-says = step-cases m p s f r (StepSays m p s f r) went-on refused-13 refused-before
 
 save-says : (m : Mesh) (p : Parameters) (state : List Float) (k : Clock) (t : List ℕ) → SaveSays m p state k t (saveOf m p state k t)
 unfolding saveOf
@@ -83,7 +84,7 @@ pub open-keeps-demand1 : OpenKeepsDemand1
 open-keeps-demand1 κs a x v met = subst (OpenSays _ _ _) (sym met) (open-says _ _ _)
 
 pub step-keeps-demand1 : StepKeepsDemand1
-step-keeps-demand1 κs a x v met = subst (StepSays _ _) (sym met) (step-says _ _)
+step-keeps-demand1 κs a x v met = subst (StepSays _ _ _ _ _) (sym met) (step-says _ _ _ _ _)
 
 pub save-keeps-demand1 : SaveKeepsDemand1
 save-keeps-demand1 κs a x v met = subst (SaveSays _ _ _ _ _) (sym met) (save-says _ _ _ _ _)

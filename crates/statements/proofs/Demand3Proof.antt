@@ -7,77 +7,77 @@ use borrow.Author.Tests.{eqb-true, eq-eqb}
 use lib.ListN.{length}
 use Rattle.equations.specs.declared.Parameters.{Parameters}
 use Rattle.mesh.specs.Lent.{Mesh, N}
-use Rattle.surge.specs.Lent.{After}
-use Rattle.mesh.specs.Rows.{rows1to9}
+use Rattle.lists.specs.Scan.{accepted}
+use Rattle.surge.specs.Lent.{Run, run, After, windOf}
+use Rattle.mesh.specs.Rows.{meshRows}
 use Rattle.surge.specs.Open.{openAnswer, openOf}
 use Rattle.limits.specs.Limits.{row12Held}
-use Rattle.bounds.specs.State.{rows1to10}
-use Rattle.surge.specs.State.{windOf}
-use Rattle.surge.specs.Step.{Given, given, Held, StepOut, advance}
+use Rattle.bounds.specs.State.{runRows}
+use Rattle.surge.specs.Step.{StepOut, advance}
 use Rattle.passes.specs.Settle.{Rooms}
-use Rattle.mesh.proofs.AcceptedLaws.{accepted}
-use Rattle.surge.proofs.StepLaws.{not-last}
-use Rattle.surge.proofs.KeptLaws.{went-on, stayed, step-mesh, next-rows, next-wind, cold-rows, cold-wind, opened-mesh}
+use Rattle.surge.proofs.StepLaws.{not-last, went-on, stayed}
+use Rattle.surge.proofs.NextLaws.{next-rows, next-wind}
+use Rattle.surge.proofs.ColdLaws.{cold-rows, cold-wind, opened-mesh}
 use Rattle.saves.specs.Storable.{StorableState, StorableClock}
 use Rattle.saves.proofs.OwnLaws.{saved-loaded}
 use Rattle.saves.proofs.StorableLaws.{clock-storable, state-storable, cold-clock-storable, cold-state-storable, next-state-storable, next-clock-storable}
 use Rattle.saves.proofs.SaveLaws.{save-accepts}
-use Rattle.saves.proofs.LoadLaws.{load-took, load-stayed, load-depths, loaded-rows, loaded-wind}
+use Rattle.saves.proofs.LoadLaws.{load-took, load-stayed, loaded-rows, loaded-wind}
 use Rattle.history.specs.History.{Call, history, Laws}
 use Rattle.history.proofs.Demand3.{demand3, held-good}
-use Rattle.statements.specs.Demand3.{Weather, accepts, run, coldRun, stepped, saved, loaded, surge, Demand3AtSurge, OpensCold, OwnSavesLoad, HeldRunsSave}
+use Rattle.statements.specs.Demand3.{Weather, accepts, coldRun, stepped, saved, loaded, surge, Demand3AtSurge, OpensCold, OwnSavesLoad, HeldRunsSave}
 
 module _ (m : Mesh) (p : Parameters) where
   -- a run that these calls can hold: four runs of N binary64, a clock that a head can hold, and rows 10 and 12 pass (10 where the mesh passes 1 to 9)
-  record Good (r : Held) : Type 0 where
+  record Good (r : Run) : Type 0 where
     state : StorableState (N m) (r .state)
     clock : StorableClock (r .clock)
-    bounds : rows1to9 true false m p .number ≡ 0 → rows1to10 true m p (r .state) .number ≡ 0
+    bounds : meshRows accepted m p .number ≡ 0 → runRows accepted m p (r .state) .number ≡ 0
     wind : row12Held (windOf (r .clock)) .number ≡ 0
 
   good-cold : Good (coldRun m)
   good-cold = record { state = cold-state-storable (N m); clock = cold-clock-storable; bounds = cold-rows m p; wind = cold-wind }
 
   -- ---- a step
-  module _ (r : Held) (f : Weather) (rooms : Rooms) where
-    abbrev its : Given
-    its = given m p (r .state) (r .clock) (f .forcing)
+  module _ (r : Run) (f : Weather) (rooms : Rooms) where
+    abbrev its : Run
+    its = advance m p r (f .forcing)
 
-    step-on : Good r → stepped m p r (f .forcing) rooms .accepted ≡ true → (stepped m p r (f .forcing) rooms .held ≡ advance its) × Good (advance its)
+    step-on : Good r → stepped m p r (f .forcing) rooms .accepted ≡ true → (stepped m p r (f .forcing) rooms .held ≡ its) × Good its
     step-on g e =
-        let w = went-on its rooms e in (
+        let w = went-on m p r (f .forcing) rooms e in (
           rw e (ap (λ (o : StepOut). run (o .rooms .next) (o .reply .clock)) (w .out)),
           record {
-            state = next-state-storable its (f .elevation) (accepted _ _ _ _ (step-mesh its _ (w .first) (w .last)) .sized .h) (g .state);
-            clock = next-clock-storable its (f .elevation) (f .wx) (f .wy) (not-last its rooms (w .first)) (g .clock);
-            bounds = λ _. next-rows its _ (w .first) (w .last);
-            wind = next-wind its _ (w .first) (w .last);
+            state = next-state-storable m p r (f .forcing) (f .elevation) (g .state);
+            clock = next-clock-storable m p r (f .forcing) (f .elevation) (f .wx) (f .wy) (not-last m p r (f .forcing) rooms (w .first)) (g .clock);
+            bounds = λ _. next-rows m p r (f .forcing) rooms (w .first) (w .last);
+            wind = next-wind m p r (f .forcing) rooms (w .first) (w .last);
           },
         )
 
     step-back : stepped m p r (f .forcing) rooms .accepted ≡ false → stepped m p r (f .forcing) rooms .held ≡ r
-    step-back e = rw e (ap (run (r .state)) (stayed its rooms e))
+    step-back e = rw e (ap (run (r .state)) (stayed m p r (f .forcing) rooms e))
 
   -- ---- a load
-  abbrev left : After → Held
+  abbrev left : After → Run
   left o = run (o .state) (o .reply .clock)
 
-  load-on : (r : Held) (t : List ℕ) → loaded m p r t .accepted ≡ true → Good (loaded m p r t .held)
+  load-on : (r : Run) (t : List ℕ) → loaded m p r t .accepted ≡ true → Good (loaded m p r t .held)
   load-on r t e =
       let (ok, out) = load-took m p t (r .state) (r .clock) e in
       subst Good (sym (ap left out))
       (record {
-        state = state-storable (m .h) t (N m) (load-depths m p t (r .state) ok);
+        state = state-storable (N m) (m .h) t;
         clock = clock-storable (N m) t;
         bounds = λ _. loaded-rows m p t (r .state) ok;
         wind = loaded-wind m p t (r .state) ok;
       })
 
-  load-back : (r : Held) (t : List ℕ) → loaded m p r t .accepted ≡ false → loaded m p r t .held ≡ r
+  load-back : (r : Run) (t : List ℕ) → loaded m p r t .accepted ≡ false → loaded m p r t .held ≡ r
   load-back r t e = ap left (load-stayed m p t (r .state) (r .clock) e)
 
   -- ---- a save, and a load of its text
-  own-text : (r q : Held) (text : List ℕ) → Good r → length (q .state) ≡ length (r .state) → saved m p r text .accepted ≡ true
+  own-text : (r q : Run) (text : List ℕ) → Good r → length (q .state) ≡ length (r .state) → saved m p r text .accepted ≡ true
       → loaded m p q (saved m p r text .text) ≡ record { accepted = true; held = r }
   own-text r q text g l e =
       ap (λ (o : After). record { accepted = accepts (o .reply .answer); held = left o })

@@ -4,6 +4,7 @@ use contract.Lifetimes.{Lfts}
 use borrow.Fn.Kinds.{Dens}
 use Rattle.frames.specs.Building.{Put, putOut}
 use Rattle.surge.specs.Lent.{After, after}
+use Rattle.passes.specs.Settle.{Settled, settled}
 use Rattle.surge.specs.Step.{StepOut, stepOut}
 use Rattle.saves.specs.Save.{SaveOut, saveOut}
 use Rattle.forcings.specs.declared.Taken.{Taken}
@@ -33,20 +34,20 @@ use Rattle.equations.proofs.elevation.shares.Kinds as shares-kinds
 use Rattle.equations.proofs.elevation.shares.Reads as shares-reads
 use Rattle.equations.proofs.elevation.lumped.Kinds as lumped-kinds
 use Rattle.equations.proofs.elevation.lumped.Reads as lumped-reads
-use Rattle.equations.proofs.elevation.risen.Kinds as risen-kinds
-use Rattle.equations.proofs.elevation.risen.Reads as risen-reads
+use Rattle.equations.proofs.elevation.rise.Kinds as rise-kinds
+use Rattle.equations.proofs.elevation.rise.Reads as rise-reads
 use Rattle.equations.proofs.velocity.flow.Kinds as flow-kinds
 use Rattle.equations.proofs.velocity.flow.Reads as flow-reads
-use Rattle.equations.proofs.outcomes.level.Kinds as level-kinds
-use Rattle.equations.proofs.outcomes.level.Reads as level-reads
-use Rattle.equations.proofs.outcomes.east.Kinds as east-kinds
-use Rattle.equations.proofs.outcomes.east.Reads as east-reads
-use Rattle.equations.proofs.outcomes.north.Kinds as north-kinds
-use Rattle.equations.proofs.outcomes.north.Reads as north-reads
+use Rattle.equations.proofs.outcomes.of_rise.Kinds as of-rise-kinds
+use Rattle.equations.proofs.outcomes.of_rise.Reads as of-rise-reads
+use Rattle.equations.proofs.outcomes.of_east.Kinds as of-east-kinds
+use Rattle.equations.proofs.outcomes.of_east.Reads as of-east-reads
+use Rattle.equations.proofs.outcomes.of_north.Kinds as of-north-kinds
+use Rattle.equations.proofs.outcomes.of_north.Reads as of-north-reads
 use Rattle.equations.proofs.outcomes.answer.Kinds as answer-kinds
 use Rattle.equations.proofs.outcomes.answer.Reads as answer-reads
-use Rattle.limits.proofs.is_sound.Kinds as is-sound-kinds
-use Rattle.limits.proofs.is_sound.Reads as is-sound-reads
+use Rattle.limits.proofs.is_node.Kinds as is-node-kinds
+use Rattle.limits.proofs.is_node.Reads as is-node-reads
 use Rattle.limits.proofs.parameters.Kinds as parameters-kinds
 use Rattle.limits.proofs.parameters.Reads as parameters-reads
 use Rattle.limits.proofs.in_bounds.Kinds as in-bounds-kinds
@@ -79,14 +80,14 @@ use Rattle.frames.proofs.lines.put.Kinds as put-kinds
 use Rattle.frames.proofs.lines.put.Reads as put-reads
 use Rattle.lists.proofs.slices.clear_whole.Kinds as clear-whole-kinds
 use Rattle.lists.proofs.slices.clear_whole.Reads as clear-whole-reads
-use Rattle.bounds.proofs.rows_to_10.Kinds as rows-to-10-kinds
-use Rattle.bounds.proofs.rows_to_10.Reads as rows-to-10-reads
+use Rattle.bounds.proofs.run_rows.Kinds as run-rows-kinds
+use Rattle.bounds.proofs.run_rows.Reads as run-rows-reads
 use Rattle.forcings.proofs.read_forcing.Kinds as read-forcing-kinds
 use Rattle.forcings.proofs.read_forcing.Reads as read-forcing-reads
 use Rattle.saves.proofs.save.Kinds as save-kinds
 use Rattle.saves.proofs.save.Reads as save-reads
-use Rattle.mesh.proofs.check.Kinds as check-kinds
-use Rattle.mesh.proofs.check.Reads as check-reads
+use Rattle.mesh.proofs.mesh_rows.Kinds as mesh-rows-kinds
+use Rattle.mesh.proofs.mesh_rows.Reads as mesh-rows-reads
 use Rattle.saves.proofs.load.Kinds as load-kinds
 use Rattle.saves.proofs.load.Reads as load-reads
 use Rattle.surge.proofs.step.Kinds as step-kinds
@@ -109,6 +110,26 @@ use Rattle.capi.proofs.surge_load.Kinds as surge-load-kinds
 use Rattle.capi.proofs.surge_load.Reads as surge-load-reads
 use Rattle.capi.proofs.surge_read_forcing.Kinds as surge-read-forcing-kinds
 use Rattle.capi.proofs.surge_read_forcing.Reads as surge-read-forcing-reads
+use Rattle.mesh.proofs.open_rows.Kinds as open-rows-kinds
+use Rattle.mesh.proofs.open_rows.Reads as open-rows-reads
+use Rattle.mesh.proofs.reading.corners_at.Kinds as corners-at-kinds
+use Rattle.mesh.proofs.reading.corners_at.Reads as corners-at-reads
+use Rattle.lists.proofs.rows.failed_first.Kinds as failed-first-kinds
+use Rattle.lists.proofs.rows.failed_first.Reads as failed-first-reads
+use Rattle.geometry.proofs.sides_of.Kinds as sides-of-kinds
+use Rattle.geometry.proofs.sides_of.Reads as sides-of-reads
+use Rattle.geometry.proofs.all_near.Kinds as all-near-kinds
+use Rattle.geometry.proofs.all_near.Reads as all-near-reads
+use Rattle.geometry.proofs.twice_area.Kinds as twice-area-kinds
+use Rattle.geometry.proofs.twice_area.Reads as twice-area-reads
+use Rattle.geometry.proofs.area_of.Kinds as area-of-kinds
+use Rattle.geometry.proofs.area_of.Reads as area-of-reads
+use Rattle.geometry.proofs.sum_of.Kinds as sum-of-kinds
+use Rattle.geometry.proofs.sum_of.Reads as sum-of-reads
+use Rattle.geometry.proofs.floats_of.Kinds as floats-of-kinds
+use Rattle.geometry.proofs.floats_of.Reads as floats-of-reads
+use Rattle.passes.proofs.settle.Kinds as settle-kinds
+use Rattle.passes.proofs.settle.Reads as settle-reads
 
 -- the one law: two values that equal a third are equal
 same : {A : Type 0} {x y z : A} → x ≡ z → y ≡ z → x ≡ y
@@ -142,26 +163,26 @@ shares-determined κs a x y v w p q = (same p q, refl)
 pub lumped-determined : Determined lumped-kinds.ps lumped-kinds.r lumped-reads.Post
 lumped-determined κs a x y v w p q = (same p q, refl)
 
-pub risen-determined : Determined risen-kinds.ps risen-kinds.r risen-reads.Post
-risen-determined κs a x y v w p q = (same p q, refl)
+pub rise-determined : Determined rise-kinds.ps rise-kinds.r rise-reads.Post
+rise-determined κs a x y v w p q = (same p q, refl)
 
 pub flow-determined : Determined flow-kinds.ps flow-kinds.r flow-reads.Post
 flow-determined κs a x y v w p q = (same p q, refl)
 
-pub level-determined : Determined level-kinds.ps level-kinds.r level-reads.Post
-level-determined κs a x y v w p q = (same p q, refl)
+pub of-rise-determined : Determined of-rise-kinds.ps of-rise-kinds.r of-rise-reads.Post
+of-rise-determined κs a x y v w p q = (same p q, refl)
 
-pub east-determined : Determined east-kinds.ps east-kinds.r east-reads.Post
-east-determined κs a x y v w p q = (same p q, refl)
+pub of-east-determined : Determined of-east-kinds.ps of-east-kinds.r of-east-reads.Post
+of-east-determined κs a x y v w p q = (same p q, refl)
 
-pub north-determined : Determined north-kinds.ps north-kinds.r north-reads.Post
-north-determined κs a x y v w p q = (same p q, refl)
+pub of-north-determined : Determined of-north-kinds.ps of-north-kinds.r of-north-reads.Post
+of-north-determined κs a x y v w p q = (same p q, refl)
 
 pub answer-determined : Determined answer-kinds.ps answer-kinds.r answer-reads.Post
 answer-determined κs a x y v w p q = (same p q, refl)
 
-pub is-sound-determined : Determined is-sound-kinds.ps is-sound-kinds.r is-sound-reads.Post
-is-sound-determined κs a x y v w p q = (same p q, refl)
+pub is-node-determined : Determined is-node-kinds.ps is-node-kinds.r is-node-reads.Post
+is-node-determined κs a x y v w p q = (same p q, refl)
 
 pub parameters-determined : Determined parameters-kinds.ps parameters-kinds.r parameters-reads.Post
 parameters-determined κs a x y v w p q = (same p q, refl)
@@ -205,11 +226,38 @@ values-determined κs a x y v w p q = (same p q, refl)
 pub fault-determined : Determined fault-kinds.ps fault-kinds.r fault-reads.Post
 fault-determined κs a x y v w p q = (same p q, refl)
 
-pub rows-to-10-determined : Determined rows-to-10-kinds.ps rows-to-10-kinds.r rows-to-10-reads.Post
-rows-to-10-determined κs a x y v w p q = (same p q, refl)
+pub run-rows-determined : Determined run-rows-kinds.ps run-rows-kinds.r run-rows-reads.Post
+run-rows-determined κs a x y v w p q = (same p q, refl)
 
-pub check-determined : Determined check-kinds.ps check-kinds.r check-reads.Post
-check-determined κs a x y v w p q = (same p q, refl)
+pub mesh-rows-determined : Determined mesh-rows-kinds.ps mesh-rows-kinds.r mesh-rows-reads.Post
+mesh-rows-determined κs a x y v w p q = (same p q, refl)
+
+pub open-rows-determined : Determined open-rows-kinds.ps open-rows-kinds.r open-rows-reads.Post
+open-rows-determined κs a x y v w p q = (same p q, refl)
+
+pub corners-at-determined : Determined corners-at-kinds.ps corners-at-kinds.r corners-at-reads.Post
+corners-at-determined κs a x y v w p q = (same p q, refl)
+
+pub failed-first-determined : Determined failed-first-kinds.ps failed-first-kinds.r failed-first-reads.Post
+failed-first-determined κs a x y v w p q = (same p q, refl)
+
+pub sides-of-determined : Determined sides-of-kinds.ps sides-of-kinds.r sides-of-reads.Post
+sides-of-determined κs a x y v w p q = (same p q, refl)
+
+pub all-near-determined : Determined all-near-kinds.ps all-near-kinds.r all-near-reads.Post
+all-near-determined κs a x y v w p q = (same p q, refl)
+
+pub twice-area-determined : Determined twice-area-kinds.ps twice-area-kinds.r twice-area-reads.Post
+twice-area-determined κs a x y v w p q = (same p q, refl)
+
+pub area-of-determined : Determined area-of-kinds.ps area-of-kinds.r area-of-reads.Post
+area-of-determined κs a x y v w p q = (same p q, refl)
+
+pub sum-of-determined : Determined sum-of-kinds.ps sum-of-kinds.r sum-of-reads.Post
+sum-of-determined κs a x y v w p q = (same p q, refl)
+
+pub floats-of-determined : Determined floats-of-kinds.ps floats-of-kinds.r floats-of-reads.Post
+floats-of-determined κs a x y v w p q = (same p q, refl)
 
 -- ---- functions that write a slice
 pub clear-determined : Determined clear-kinds.ps clear-kinds.r clear-reads.Post
@@ -227,6 +275,11 @@ put-determined κs a x y v w p q =
     (ap (λ (o : Put). o .next) e, λ i. (e i .text, (tt, (tt, tt))))
 
 -- ---- calls
+pub settle-determined : Determined settle-kinds.ps settle-kinds.r settle-reads.Post
+settle-determined κs a x y v w p q =
+    let e : settled x (v .0) (v .1 .0) (v .1 .1 .0) ≡ settled y (w .0) (w .1 .0) (w .1 .1 .0) = same p q in
+    (ap (λ (o : Settled). o .answer) e, λ i. (e i .rooms .next, (e i .rooms .work, (e i .rooms .sums, (tt, (tt, (tt, (tt, (tt, (tt, (tt, (tt, (tt, (tt, tt))))))))))))))
+
 pub open-determined : Determined open-kinds.ps open-kinds.r open-reads.Post
 open-determined κs a x y v w p q =
     let e : after x (v .0) ≡ after y (w .0) = same p q in

@@ -13,7 +13,8 @@ use Rattle.lists.specs.Table.{table}
 use Rattle.lists.specs.Scan.{accepted, refused}
 use Rattle.lists.specs.Numbers.{decimal}
 use Rattle.surge.specs.Open.{openOf}
-use Rattle.surge.specs.Step.{Held, given, stepOf}
+use Rattle.surge.specs.Lent.{Run}
+use Rattle.surge.specs.Step.{stepOf}
 use Rattle.frames.specs.Frames.{bits}
 use Rattle.saves.specs.Save.{wrote, saveOf}
 use Rattle.saves.specs.Load.{loadOf}
@@ -94,8 +95,8 @@ abbrev pub end : History on-T
 end = history on-T calls
 
 -- what a call answers on the run r, and what each call of a sequence answers in turn, with the step number of the run that is held after it
-abbrev pub answer : Held → Call on-T → Answer
-answer r (step f rooms) = stepOf (given T T-parameters (r .state) (r .clock) (f .forcing)) rooms .reply .answer
+abbrev pub answer : Run → Call on-T → Answer
+answer r (step f rooms) = stepOf T T-parameters r (f .forcing) rooms .reply .answer
 answer r (save room) = saveOf T T-parameters (r .state) (r .clock) room .answer
 answer r (load t) = loadOf T T-parameters t (r .state) (r .clock) .reply .answer
 

@@ -12,13 +12,14 @@ use Rattle.lists.specs.declared.rows.Answer.{Answer}
 use Rattle.lists.specs.Table.{table, zeros}
 use Rattle.lists.specs.Scan.{_then_}
 use Rattle.equations.specs.declared.Parameters.{Parameters}
+use Rattle.equations.specs.declared.Forcing.{Forcing}
 use Rattle.surge.specs.declared.Clock.{Clock}
 use Rattle.mesh.specs.Lent.{Mesh, mesh, N, E}
-use Rattle.surge.specs.Lent.{coldState, coldClock, After, after}
+use Rattle.surge.specs.Lent.{Run, run, coldState, coldClock, After, after}
 use Rattle.surge.specs.Open.{openAnswer}
-use Rattle.surge.specs.Step.{Given, given, seaOf, before13, StepOut, stepOut}
+use Rattle.surge.specs.Step.{StepOut, stepOut, givenOf, stepRows}
 use Rattle.passes.specs.Row13.{row13}
-use Rattle.passes.specs.Settle.{Rooms, lentRooms, roomy}
+use Rattle.passes.specs.Settle.{Rooms, lentRooms, workRuns}
 use Rattle.forcings.specs.declared.Taken.{Taken}
 use Rattle.saves.specs.Lines.{saveLength}
 use Rattle.saves.specs.Save.{saveText, saveAnswer, SaveOut, saveOut, wrote}
@@ -50,26 +51,26 @@ pub record OpenSays (m : Mesh) (p : Parameters) (state : List Float) (o : After)
   pub accepted : Accepts (o .reply .answer) → o .state ≡ coldState (N m)
   pub refused : Refuses (o .reply .answer) → o .state ≡ state
 
--- step: rows 1 to 12 in order, then 13
-abbrev pub stepAnswer : Given → Rooms → Answer
-stepAnswer g r = before13 (roomy r (N (g .mesh))) g then row13 (seaOf g) (g .mesh .kind) (g .forcing)
+-- step: what is asked before anything is worked out, then row 13
+abbrev pub stepAnswer : Mesh → Parameters → Run → Forcing → Rooms → Answer
+stepAnswer m p s f r = stepRows m p s f r then row13 (givenOf m p s f)
 
 -- the work room is as found; and it is zero
 abbrev pub Untouched : Rooms → Rooms → Type 0
 Untouched r o = (o .work ≡ r .work) × (o .sums ≡ r .sums)
 
 abbrev pub AllZero : ℕ → Rooms → Type 0
-AllZero n o = (o .work ≡ zeros (3 * n)) × (o .sums ≡ table n (λ _. 0))
+AllZero n o = (o .work ≡ zeros (workRuns * n)) × (o .sums ≡ table n (λ _. 0))
 
-pub record StepSays (g : Given) (r : Rooms) (o : StepOut) : Type 0 where
-  pub answer : o .reply .answer ≡ stepAnswer g r
+pub record StepSays (m : Mesh) (p : Parameters) (s : Run) (f : Forcing) (r : Rooms) (o : StepOut) : Type 0 where
+  pub answer : o .reply .answer ≡ stepAnswer m p s f r
   -- "A refusal leaves state, next state, text and clock as found."
   pub next : Refuses (o .reply .answer) → o .rooms .next ≡ r .next
-  pub clock : Refuses (o .reply .answer) → o .reply .clock ≡ g .clock
+  pub clock : Refuses (o .reply .answer) → o .reply .clock ≡ s .clock
   -- "Work room is untouched by every refusal but 13, and all zero after an accepted step or a 13."
   pub untouched : Refuses (o .reply .answer) → (o .reply .answer .number ≡ 13 → ⊥) → Untouched r (o .rooms)
-  pub by-13 : o .reply .answer .number ≡ 13 → AllZero (N (g .mesh)) (o .rooms)
-  pub accepted : Accepts (o .reply .answer) → AllZero (N (g .mesh)) (o .rooms)
+  pub by-13 : o .reply .answer .number ≡ 13 → AllZero (N m) (o .rooms)
+  pub accepted : Accepts (o .reply .answer) → AllZero (N m) (o .rooms)
 
 -- save: the rows' answer with the text as found; or, where they accept, number 0 and place 70+73N, and "Text room past a save keeps its bytes"
 pub record SaveSays (m : Mesh) (p : Parameters) (state : List Float) (k : Clock) (t : List ℕ) (o : SaveOut) : Type 0 where
@@ -109,7 +110,7 @@ abbrev pub StepKeepsDemand1 : Type 0
 StepKeepsDemand1 =
     Keeps step-kinds.ps step-kinds.r step-reads.Post
     (λ κs (next, (work, (sums, (state, (x, (y, (tri, (h, (kind, (p, (clock, (f, _)))))))))))) reply left.
-    StepSays (given (mesh (x .now) (y .now) (tri .now) (h .now) (kind .now)) p (state .now) clock f)
+    StepSays (mesh (x .now) (y .now) (tri .now) (h .now) (kind .now)) p (run (state .now) clock) f
     (lentRooms (next .now) (work .now) (sums .now))
     (stepOut reply (left .0) (left .1 .0) (left .1 .1 .0)))
 

@@ -11,9 +11,9 @@ use Rattle.equations.specs.declared.Parameters.{Parameters}
 use Rattle.surge.specs.declared.Clock.{Clock}
 use Rattle.equations.specs.declared.Forcing.{Forcing}
 use Rattle.mesh.specs.Lent.{Mesh, N}
-use Rattle.surge.specs.Lent.{coldState, coldClock}
+use Rattle.surge.specs.Lent.{Run, run, coldState, coldClock}
 use Rattle.surge.specs.Open.{openOf}
-use Rattle.surge.specs.Step.{given, Held, advance, stepOf}
+use Rattle.surge.specs.Step.{advance, stepOf}
 use Rattle.passes.specs.Settle.{Rooms}
 use Rattle.saves.specs.Lines.{saveLength}
 use Rattle.saves.specs.Save.{saveOf}
@@ -31,30 +31,27 @@ pub record Weather : Type 0 where
 abbrev pub accepts : Answer → Bool
 accepts a = eqb (a .number) 0
 
-abbrev pub run : List Float → Clock → Held
-run state k = record { state = state; clock = k }
-
 -- "A cold start is all +0, step 0."
-abbrev pub coldRun : Mesh → Held
+abbrev pub coldRun : Mesh → Run
 coldRun m = run (coldState (N m)) coldClock
 
 module _ (m : Mesh) (p : Parameters) where
   -- A step is lent rooms of any lengths, with anything in them. Where it accepts, the state held is what it wrote to the room for the next state; where it
   -- refuses, the state stays. The clock held is the one that it hands back.
-  abbrev pub stepped : Held → Forcing → Rooms → Reply Held
+  abbrev pub stepped : Run → Forcing → Rooms → Reply Run
   stepped r f rooms =
-      let o = stepOf (given m p (r .state) (r .clock) f) rooms in
+      let o = stepOf m p r f rooms in
       let ok = accepts (o .reply .answer) in
       record { accepted = ok; held = run (cond ok (o .rooms .next) (r .state)) (o .reply .clock) }
 
   -- A save is lent a text room of any length. The text saved is the bytes that it wrote: "a save's place is the bytes it wrote".
-  abbrev pub saved : Held → List ℕ → Written
+  abbrev pub saved : Run → List ℕ → Written
   saved r text =
       let o = saveOf m p (r .state) (r .clock) text in
       record { accepted = accepts (o .answer); text = take (o .answer .place) (o .text) }
 
   -- A load is lent the state to be replaced. The run held is that state as the load leaves it, and the clock that it hands back.
-  abbrev pub loaded : Held → List ℕ → Reply Held
+  abbrev pub loaded : Run → List ℕ → Reply Run
   loaded r text =
       let o = loadOf m p text (r .state) (r .clock) in
       record { accepted = accepts (o .reply .answer); held = run (o .state) (o .reply .clock) }
@@ -62,12 +59,12 @@ module _ (m : Mesh) (p : Parameters) where
   -- The calls of a run on the mesh m with the parameters p. `advance` is demand 2's equations alone, and nothing of what `step` hands back.
   abbrev pub surge : Calls
   surge = record {
-    Run = Held;
+    Run = Run;
     Forcing = Weather;
     StepRoom = Rooms;
     SaveRoom = List ℕ;
     cold = coldRun m;
-    advance = λ r f. advance (given m p (r .state) (r .clock) (f .forcing));
+    advance = λ r f. advance m p r (f .forcing);
     step = λ r f rooms. stepped r (f .forcing) rooms;
     save = saved;
     load = loaded;

@@ -13,11 +13,11 @@ use Rattle.geometry.specs.declared.WholeSides.{WholeSides}
 use Rattle.frames.specs.Bytes.{bytes, sum}
 use Rattle.frames.specs.Frames.{text}
 use Rattle.mesh.specs.Lent.{Mesh, mesh, N, corners}
-use Rattle.surge.specs.Lent.{coldState, coldClock}
+use Rattle.surge.specs.Lent.{run, coldState, coldClock}
 use Rattle.mesh.specs.Geometry.{sides}
 use Rattle.geometry.specs.Geometry.{D}
 use Rattle.surge.specs.Open.{openAnswer}
-use Rattle.surge.specs.Step.{given, stepOf}
+use Rattle.surge.specs.Step.{stepOf}
 use Rattle.passes.specs.Settle.{Rooms, lentRooms}
 use Rattle.saves.specs.Lines.{head, end}
 use Rattle.saves.specs.Save.{linesTo, saveText}
@@ -74,7 +74,7 @@ loading t = answer (loadAnswer T T-parameters t (coldState 3))
 -- a whole step on T, from the cold state with the clock at this step number, with a forcing of three +0
 abbrev pub stepping : ℕ → Outcome
 stepping number =
-    let o = stepOf (given T T-parameters (coldState 3) (record { step = number; wx = plus0; wy = plus0 }) still) T-rooms in
+    let o = stepOf T T-parameters (run (coldState 3) (record { step = number; wx = plus0; wy = plus0 })) still T-rooms in
     stepped (o .reply .answer) (o .reply .clock .step)
 
 abbrev pub example : Outcome → Outcome → Example

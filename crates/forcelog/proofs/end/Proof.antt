@@ -11,4 +11,5 @@ pub end-spec : {M : Type 1} → statement M
 unfolding endOf T T-parameters decimal round ofBits
 end-spec =
     tie.close
-    (tie.spec (λ c. search needs) (λ c. refl) (λ c. refl) (λ c. refl) (λ c. refl) (λ c. refl) (λ c κs. tt) (λ c. search needs) (λ c. c .before .before .save .ensures))
+    (tie.spec (λ c. search needs) (λ c. refl) (λ c. refl) (λ c. refl) (λ c. refl) (λ c. refl) (λ c κs. tt) (λ c. search needs)
+    (λ c. c .before .before .save .ensures))

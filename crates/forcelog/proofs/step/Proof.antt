@@ -36,5 +36,5 @@ returns-2 c =
 pub step-spec : {M : Type 1} → statement M
 step-spec =
     tie.close
-    (tie.spec (λ c. refl) (λ c. refl) (λ c. refl) (λ c. search needs) (λ c. refl) (λ c. refl) (λ c. refl) (λ c. refl) (λ c. refl) (λ c κs. tt) (λ c κs. tt)
-    returns (λ c. omega arith) returns-2)
+    (tie.spec (λ c. refl) (λ c. refl) (λ c. refl) (λ c. search needs) (λ c. refl) (λ c. refl) (λ c. refl) (λ c. refl) (λ c. refl) (λ c κs. tt)
+    (λ c κs. tt) returns (λ c. omega arith) returns-2)
