@@ -13,6 +13,7 @@ use geometry::Corners;
 use geometry::Places;
 use lists::rows;
 use lists::rows::Answer;
+use lists::slices;
 ghost use mathlib.Core.Path.{_≡_};
 ghost use Prim.Native.Nat.{_*_};
 ghost use lib.ListN.{length};
@@ -24,7 +25,8 @@ ghost use Rattle.mesh.specs.Lent.{mesh};
 ghost use Rattle.bounds.specs.State.{stateRuns, nodeOf};
 ghost use Rattle.passes.specs.Equations.{Given, given, count, S, riseOf};
 ghost use Rattle.passes.specs.Row13.{riseRow, riseRows};
-ghost use Rattle.passes.specs.Private.{Fits, clearRoom, sumRoom, riseRoom};
+ghost use Rattle.passes.specs.Settle.{workRuns};
+ghost use Rattle.passes.specs.Private.{Fits, sumRoom, riseRoom};
 
 // What the corners of a triangle receive.
 fn shares_of(
@@ -45,7 +47,7 @@ fn shares_of(
     elevation::shares(p, w, n1, n2, n3, geometry::floats_of(q))
 }
 
-// R of every node in the first run of the work room, and S in the sums, from zero.
+// R of every node in the first run of the work room, and S in the sums. What is lent may hold anything, and each sum starts at zero.
 pub(crate) fn assemble(
     work: &mut [f64],
     sums: &mut [u64],
@@ -62,9 +64,11 @@ pub(crate) fn assemble(
     ghost { Given }
     requires { λ g. ⌜ given (mesh (now x) (now y) (now tri) (now h) (now kind)) p (now state) w f ≡ g ⌝ }
     requires { λ g. ⌜ Fits g ⌝ }
-    requires { λ g. ⌜ (now work ≡ clearRoom g) × (now sums ≡ table (count g) (λ _. 0)) ⌝ }
+    requires { λ g. ⌜ (length (now work) ≡ workRuns * count g) × (length (now sums) ≡ count g) ⌝ }
     ensures { λ g _. ⌜ (now (work .exit) ≡ sumRoom g) × (now (sums .exit) ≡ table (count g) (S g)) ⌝ }
 {
+    slices::clear(work);
+    slices::clear_whole(sums);
     let n = x.len();
     let e = tri.len() / 3;
     for t in 0..e {

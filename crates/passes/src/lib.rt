@@ -51,8 +51,6 @@ fn solve(
     requires { λ g. ⌜ (length (now work) ≡ workRuns * count g) × (length (now sums) ≡ count g) ⌝ }
     ensures { λ g a. ⌜ (a ≡ row13 g) × (a .number ≡ 0 → now (work .exit) ≡ flowRoom g) ⌝ }
 {
-    slices::clear(work);
-    slices::clear_whole(sums);
     elevation::assemble(work, sums, x, y, tri, h, kind, p, state, w, f);
     let rise = elevation::rises(work, sums, x, y, tri, h, kind, p, state, w, f);
     if rise.number != 0 {

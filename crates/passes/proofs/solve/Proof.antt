@@ -14,12 +14,7 @@ abbrev its : tie.Start → Given
 its s = let a = s .args in given (mesh (a .x .now) (a .y .now) (a .tri .now) (a .h .now) (a .kind .now)) (a .p) (a .state .now) (a .w) (a .f)
 
 abbrev start : tie.After-assemble → tie.Start
-start m = m .before .before .before .before .before .before .before .before .before .before .before .before .before .before .before .before .before
-
-assemble-requires : tie.Need-assemble-requires
-assemble-requires c κs =
-    let s = c .before .before .before .before .before .before .before .before .before .before .before .before .before .before .before .before in
-    (s .pre .0, (cleared-room (its s) _ (s .pre .1 .0) (c .before .before .before .before .before .before .before .before .clear .ensures), c .before .before .before .before .clear-whole .ensures ∙ ap (λ (n : ℕ). table n (λ _. 0)) (s .pre .1 .1)))
+start m = m .before .before .before .before .before .before .before .before .before
 
 returns : tie.Need-returns
 unfolding row13
@@ -32,7 +27,7 @@ same-length-3 : tie.Need-same-length-3
 same-length-3 c =
     let r = c .before .before .before .before .before .before .before .before .before .before .before .before .before in
     let m = r .before .before .before .before .before .before .before in
-    c .before .before .flows .kept .0 ∙ c .before .before .before .before .before .before .before .slopes .kept .0 ∙ r .rises .kept .0 ∙ m .assemble .kept .0 ∙ m .before .before .before .before .before .before .before .before .before .clear .kept .0
+    c .before .before .flows .kept .0 ∙ c .before .before .before .before .before .before .before .slopes .kept .0 ∙ r .rises .kept .0 ∙ m .assemble .kept .0
 
 returns-2 : tie.Need-returns-2
 unfolding row13
@@ -44,10 +39,10 @@ returns-2 c =
 pub solve-spec : {M : Type 1} → statement M
 solve-spec =
     tie.close
-    (tie.spec (λ c κs. tt) (λ c κs. tt) assemble-requires
+    (tie.spec (λ c κs. search needs)
     (λ c κs. let m = c .before .before .before .before .before .before in (start m .pre .0, m .assemble .ensures)) (λ c. search needs)
     (λ c. search needs) returns
     (λ c κs. let r = c .before .before .before .before .before in (start (r .before .before .before .before .before .before .before) .pre .0, r .rises .ensures .1))
     flows-requires same-length-3
-    (λ c. let m = c .before .before .before .before .before .before .before .before .before .before .before .before .before .before .before .before .before .before .before .before in m .assemble .kept .1 .0 ∙ m .before .before .before .before .before .clear-whole .kept .0)
+    (λ c. let m = c .before .before .before .before .before .before .before .before .before .before .before .before .before .before .before .before .before .before .before .before in m .assemble .kept .1 .0)
     returns-2)

@@ -15,6 +15,7 @@ use Rattle.mesh.proofs.SideLaws.{corners-read}
 use Rattle.passes.specs.Equations.{Given, given, count, cornersOf}
 use Rattle.passes.specs.Private.{Fits}
 use Rattle.passes.proofs.PassLaws.{sumsTo, S-to, in-run, inside, its-area, its-shares, sum-more, area-more, S-room}
+use Rattle.passes.proofs.SettleLaws.{cleared-room}
 use Rattle.passes.proofs.elevation.assemble.Statement.{statement}
 use Rattle.passes.proofs.elevation.assemble.Tie as tie
 
@@ -30,7 +31,7 @@ abbrev its : tie.Start Inv-loop μ-loop → Forcing → Given
 its s f = let a = s .args in given (mesh (a .x .now) (a .y .now) (a .tri .now) (a .h .now) (a .kind .now)) (a .p) (a .state .now) (a .w) f
 
 abbrev start : tie.At-loop Inv-loop μ-loop → tie.Start Inv-loop μ-loop
-start l = l .before .before .before .before .before .before .before
+start l = l .before .before .before .before .before .before .before .before .before .before .before .before .before .before .before
 
 fits : (l : tie.At-loop Inv-loop μ-loop) (f : Forcing) → Fits (its (start l) f)
 fits l f = let z = start l .pre .0 in record { shape = z .shape; state = z .state }
@@ -47,7 +48,9 @@ corner c = corners-read _ _ (c .before .loop-test .taken) (c .corners-at .ensure
 
 loop-holds : tie.Need-loop-holds Inv-loop μ-loop
 unfolding gathered
-loop-holds c = let s = c .before .before .before .before .before .before in (omega arith, λ f. s .pre .1)
+loop-holds c =
+    let s = c .before .before .before .before .before .before .before .before .before .before .before .before .before .before in
+    (omega arith, λ f. (cleared-room (its s f) _ (s .pre .1 .0) (c .before .before .before .before .before .before .clear .ensures), c .before .before .clear-whole .ensures ∙ ap (λ (n : ℕ). table n (λ _. 0)) (s .pre .1 .1)))
 
 places-at-requires : tie.Need-places-at-requires Inv-loop μ-loop
 places-at-requires c κs =
@@ -111,8 +114,8 @@ returns c =
 pub assemble-spec : {M : Type 1} → statement M
 assemble-spec =
     tie.close
-    (tie.spec Inv-loop μ-loop loop-holds (λ c κs. tt) places-at-requires (λ c. search needs) shares-of-requires spread-requires (λ c κs. tt)
+    (tie.spec Inv-loop μ-loop (λ c κs. tt) (λ c κs. tt) loop-holds (λ c κs. tt) places-at-requires (λ c. search needs) shares-of-requires spread-requires (λ c κs. tt)
     (λ c κs. tt) spread-area-requires
     (λ c. let k = back (c .before .before .before) .before in record { fits = omega (arith, k .before .loop-test .taken, fits (k .before .before) (start (k .before .before) .args .f) .shape .sized .most-triangles) })
-    (λ c. omega arith) loop-again (λ c. let l = c .before in long l ∙ sym (ap length (start l .pre .1 .0) ∙ runs-length _ _))
-    (λ c. let l = c .before in sums-long l ∙ sym (ap length (start l .pre .1 .1) ∙ length-table _ _)) returns)
+    (λ c. omega arith) loop-again (λ c. let l = c .before in long l ∙ sym (start l .pre .1 .0))
+    (λ c. let l = c .before in sums-long l ∙ sym (start l .pre .1 .1)) returns)
