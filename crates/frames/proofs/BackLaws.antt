@@ -13,7 +13,7 @@ use lib.Ieee.{Float, binary64, fits, ofBits}
 use Rattle.lists.specs.Scan.{accepted, _then_}
 use Rattle.lists.proofs.ScanLaws.{row-holds}
 use Rattle.frames.specs.Bytes.{digits, allDigits, field, check}
-use Rattle.frames.specs.Frames.{Field, Frame, Held, wide, opening, allFields, fieldBytes, checked, frameBytes, lineFeed, text, bits, widthsOf, digitsOf, byteOf, fieldAt}
+use Rattle.frames.specs.Frames.{Field, Frame, InField, wide, opening, allFields, fieldBytes, checked, frameBytes, lineFeed, text, bits, widthsOf, digitsOf, byteOf, fieldAt}
 use Rattle.frames.specs.Reading.{value, float, isFramed, row20, row21, row22, fault}
 use Rattle.frames.proofs.ByteLaws.{digits-right, digits-length, field-length}
 use Rattle.frames.proofs.PatternLaws.{pattern-fits, float-back}
@@ -32,7 +32,7 @@ value-small line at width = go (leb width 8) refl
 -- ---- a frame's line
 module _ (f : Frame) where
   -- a field x that stands after the fields a
-  value-back : (a : List Field) (x : Field) (b : List Field) → allFields f ≡ a ++ x ∷ b → Held x → value (text f) (length (fieldBytes a)) (x .width) ≡ x .value
+  value-back : (a : List Field) (x : Field) (b : List Field) → allFields f ≡ a ++ x ∷ b → InField x → value (text f) (length (fieldBytes a)) (x .width) ≡ x .value
   unfolding value checked fieldBytes
   value-back a x b e h =
       let y = field (x .width) (x .value) in
@@ -43,7 +43,7 @@ module _ (f : Frame) where
       (rw (take-at y r (x .width) (field-length (x .width) (x .value))) (number-back (x .width) (x .value) (h .small)))
 
   -- field j of a frame is read back
-  pub field-back : (j : ℕ) → j < length (f .fields) → Held (fieldAt (f .fields) j)
+  pub field-back : (j : ℕ) → j < length (f .fields) → InField (fieldAt (f .fields) j)
       → value (text f) (byteOf (widthsOf (f .fields)) j) (fieldAt (f .fields) j .width) ≡ fieldAt (f .fields) j .value
   unfolding fieldBytes field
   field-back j l h =

@@ -82,6 +82,6 @@ abbrev pub fieldAt : List Field → ℕ → Field
 fieldAt fields j = getD fields j (wide 0 0)
 
 -- a value that its field can hold
-pub record Held (f : Field) : Type 0 where
+pub record InField (f : Field) : Type 0 where
   pub narrow : f .width ≤ 8
   pub small : f .value < 256 ^ f .width

@@ -109,7 +109,7 @@ small-D s = go (allNear s) refl
     go false e = subst (λ (z : ℤ). Small z) (sym (far-D s e)) (record { size = omega arith })
 
 -- ---- differences of 32-bit numbers are small for any places
-pub record Held (p : Places) : Type 0 where
+pub record In32 (p : Places) : Type 0 where
   pub x1 : mag (p .x1) < 2 ^ 31
   pub x2 : mag (p .x2) < 2 ^ 31
   pub x3 : mag (p .x3) < 2 ^ 31
@@ -129,7 +129,7 @@ gap-small : (x y : ℤ) → mag x < 2 ^ 31 → mag y < 2 ^ 31 → Small (x -ℤ 
 gap-small x y h k =
     record { size = omega (arith, size-minus x y, held-size w32 x (record { sfits = h }), held-size w32 y (record { sfits = k })) }
 
-pub sides-small : (p : Places) → Held p → SidesSmall (sidesAt p)
+pub sides-small : (p : Places) → In32 p → SidesSmall (sidesAt p)
 unfolding sidesAt
 sides-small p h = record {
   a1 = gap-small (p .x3) (p .x2) (h .x3) (h .x2);

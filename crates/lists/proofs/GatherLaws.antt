@@ -22,10 +22,6 @@ module _ {A : Type 0} (add : Adding A) (none : A) where
   unfolding addedAt
   length-added l i v = simp length-set
 
-  pub length-spread : (c : Three ℕ) (v : Three A) (l : List A) → length (spread add none c v l) ≡ length l
-  unfolding spread
-  length-spread c v l = simp length-added
-
   -- ---- one value, and three, added to a table
   put-plus : (f : ℕ → A) (m : ℕ) (v : A) → putAt m (add .plus (f m) v) f ≡ (λ i. plusIf add (eqb i m) (f i) v)
   put-plus f m v = λ j i. at i (eqb i m) refl j
@@ -45,11 +41,7 @@ module _ {A : Type 0} (add : Adding A) (none : A) where
       (rw (added-table n (λ i. plusIf add (eqb i (c .first)) (f i) (v .first)) (c .second) (v .second) (p .second))
       (added-table n (λ i. plusIf add (eqb i (c .second)) (plusIf add (eqb i (c .first)) (f i) (v .first)) (v .second)) (c .third) (v .third) (p .third)))
 
-  -- ---- before the first triangle each sum is the start, and triangle e takes the sums on to e + 1
-  pub gather-none : (n : ℕ) (corners : ℕ → Three ℕ) (give : ℕ → Three A) → table n (λ _. add .start) ≡ table n (gathered add corners give 0)
-  unfolding gathered
-  gather-none n corners give = refl
-
+  -- ---- triangle e takes the sums on to e + 1
   gather-suc : (n : ℕ) (corners : ℕ → Three ℕ) (give : ℕ → Three A) (e : ℕ) → Below (corners e) n
       → spread add none (corners e) (give e) (table n (gathered add corners give e)) ≡ table n (gathered add corners give (suc e))
   unfolding gathered

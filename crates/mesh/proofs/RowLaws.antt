@@ -19,7 +19,7 @@ use Rattle.lists.proofs.ScanLaws.{then-assoc, row-holds, row-fails, both-left, 
 use Rattle.mesh.specs.Lent.{Mesh, E, corner, corners}
 use Rattle.geometry.specs.Geometry.{nth, D, allNear}
 use Rattle.mesh.specs.Geometry.{sides}
-use Rattle.mesh.specs.Rows.{allBelow, row1, row2, row3, row4, row5, triangleRows, isLeg, legSeen, row6, isNamed, row7, shapeRows}
+use Rattle.mesh.specs.Rows.{allBelow, row1, row2, row3, row4, row5, triangleRows, isLeg, legSeen, row6, shapeRows}
 
 -- ---- rows 1 to 5: rows 1 and 2 are asked together, and where they accept the rest decides
 pub lent-first : (asked : Answer) (m : Mesh) → ((asked then row1 m then row2 m) then scan (triangleRows (m .x) (m .y) (m .tri)) (E m)) ≡ shapeRows asked m
@@ -124,11 +124,3 @@ mark-more tri seen v i j e l h = go (eqb v i) refl ∙ sym (some-more (λ k. eqb
         ∙ h
         ∙ or-false (namedBy tri j i)
         ∙ sym (ap (λ (b : Bool). namedBy tri j i || b) q)
-
-pub named-7 : (tri : List ℕ) (i : ℕ) → isNamed tri i ≡ true → row7 tri i .number ≡ 0
-unfolding row7
-named-7 tri i e = ap (λ (a : Answer). a .number) (row-holds 7 i e)
-
-pub unnamed-7 : (tri : List ℕ) (i : ℕ) → isNamed tri i ≡ false → row7 tri i ≡ refused 7 i
-unfolding row7
-unnamed-7 tri i e = row-fails 7 i e

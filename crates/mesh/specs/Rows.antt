@@ -1,5 +1,5 @@
 -- Document 01, "Refusal table": the mesh's rows, 1 to 8 each under its line of the table, and their order. Row 9 is in the crate `limits`.
-use Prim.Native.Nat.{ℕ, _+_, _/_, _%_}
+use Prim.Native.Nat.{ℕ, _+_, _%_}
 use mathlib.Core.Bool.{Bool, _||_, _&&_, not}
 use mathlib.Core.List.{List}
 use lib.IntN.{ℤ, pos}

@@ -1,4 +1,4 @@
-// The engine by triangles: row 13 and the equations, after what is asked before them.
+// The engine by triangles: row 13 and the equations, after what a call asks.
 pub(crate) mod elevation;
 pub(crate) mod reading;
 pub(crate) mod state;
@@ -15,7 +15,7 @@ use lists::slices;
 ghost use mathlib.Core.Path.{_≡_};
 ghost use mathlib.Core.Bool.{cond};
 ghost use mathlib.Core.List.{[], _∷_};
-ghost use Prim.Native.Nat.{ℕ, suc, _*_, _<_, _≤_};
+ghost use Prim.Native.Nat.{suc, _*_, _≤_};
 ghost use lib.Dec.{eqb};
 ghost use lib.ListN.{length};
 ghost use Rattle.lists.specs.Table.{table, zeros};

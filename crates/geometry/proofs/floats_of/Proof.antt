@@ -5,18 +5,18 @@ use mir.Syntax.{w64}
 use mir.Val.{toZ, ofZ}
 use Rattle.geometry.specs.declared.WholeSides.{WholeSides}
 use Rattle.geometry.specs.Geometry.{nearFloats}
-use Rattle.geometry.proofs.GeometryLaws.{Held, SidesSmall, sides-small, small-D, small-exact, small-float}
+use Rattle.geometry.proofs.GeometryLaws.{In32, SidesSmall, sides-small, small-D, small-exact, small-float}
 use borrow.Author.Needs.{needs}
 use Rattle.geometry.proofs.floats_of.Statement.{statement}
 use Rattle.geometry.proofs.floats_of.Tie as tie
 
-held : (c : tie.Start) → Held (c .args .p)
-held c =
+in-32 : (c : tie.Start) → In32 (c .args .p)
+in-32 c =
     let g = c .good .0 .1 .1 in
     record { x1 = g .0 .1; x2 = g .1 .0 .1; x3 = g .1 .1 .0 .1; y1 = g .1 .1 .1 .0 .1; y2 = g .1 .1 .1 .1 .0 .1; y3 = g .1 .1 .1 .1 .1 .0 .1 }
 
 small : (c : tie.After-sides-of) → SidesSmall (c .sides-of .result)
-small c = subst (λ (s : WholeSides). SidesSmall s) (sym (c .sides-of .ensures)) (sides-small _ (held (c .before)))
+small c = subst (λ (s : WholeSides). SidesSmall s) (sym (c .sides-of .ensures)) (sides-small _ (in-32 (c .before)))
 
 exact-requires : tie.Need-exact-requires
 exact-requires c κs = small-exact (small (c .before) .a1)

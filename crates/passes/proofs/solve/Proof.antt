@@ -1,12 +1,9 @@
-use mathlib.Core.Path.{ap, _∙_}
-use Prim.Native.Nat.{ℕ}
+use mathlib.Core.Path.{_∙_}
 use borrow.Author.Needs.{needs}
-use Rattle.lists.specs.Table.{table}
 use Rattle.lists.proofs.ScanLaws.{same-number, stops, goes}
 use Rattle.mesh.specs.Lent.{mesh}
 use Rattle.passes.specs.Equations.{Given, given}
 use Rattle.passes.specs.Row13.{row13}
-use Rattle.passes.proofs.SettleLaws.{cleared-room}
 use Rattle.passes.proofs.solve.Statement.{statement}
 use Rattle.passes.proofs.solve.Tie as tie
 
@@ -39,9 +36,8 @@ returns-2 c =
 pub solve-spec : {M : Type 1} → statement M
 solve-spec =
     tie.close
-    (tie.spec (λ c κs. search needs)
-    (λ c κs. let m = c .before .before .before .before .before .before in (start m .pre .0, m .assemble .ensures)) (λ c. search needs)
-    (λ c. search needs) returns
+    (tie.spec (λ c κs. search needs) (λ c κs. let m = c .before .before .before .before .before .before in (start m .pre .0, m .assemble .ensures))
+    (λ c. search needs) (λ c. search needs) returns
     (λ c κs. let r = c .before .before .before .before .before in (start (r .before .before .before .before .before .before .before) .pre .0, r .rises .ensures .1))
     flows-requires same-length-3
     (λ c. let m = c .before .before .before .before .before .before .before .before .before .before .before .before .before .before .before .before .before .before .before .before in m .assemble .kept .1 .0)

@@ -114,8 +114,8 @@ returns c =
 pub assemble-spec : {M : Type 1} → statement M
 assemble-spec =
     tie.close
-    (tie.spec Inv-loop μ-loop (λ c κs. tt) (λ c κs. tt) loop-holds (λ c κs. tt) places-at-requires (λ c. search needs) shares-of-requires spread-requires (λ c κs. tt)
-    (λ c κs. tt) spread-area-requires
+    (tie.spec Inv-loop μ-loop (λ c κs. tt) (λ c κs. tt) loop-holds (λ c κs. tt) places-at-requires (λ c. search needs) shares-of-requires
+    spread-requires (λ c κs. tt) (λ c κs. tt) spread-area-requires
     (λ c. let k = back (c .before .before .before) .before in record { fits = omega (arith, k .before .loop-test .taken, fits (k .before .before) (start (k .before .before) .args .f) .shape .sized .most-triangles) })
     (λ c. omega arith) loop-again (λ c. let l = c .before in long l ∙ sym (start l .pre .1 .0))
     (λ c. let l = c .before in sums-long l ∙ sym (start l .pre .1 .1)) returns)
