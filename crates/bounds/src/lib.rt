@@ -28,16 +28,33 @@ fn node_of(n: usize, h: &[f64], state: &[f64], i: usize) -> Node
     }
 }
 
-// Row 10: the first node that is out of its bounds.
+// Row 10, where some node is refused: the first of them.
+fn refused_node(n: usize, h: &[f64], state: &[f64]) -> Answer
+    requires { ⌜ (length (now h) ≡ n) × (length (now state) ≡ stateRuns * n) ⌝ }
+    ensures { λ r. ⌜ r ≡ scan (row10 n (now (h .entry)) (now (state .entry))) n ⌝ }
+{
+    for i in 0..n {
+        if !limits::in_bounds(node_of(n, h, state, i)) {
+            return rows::refuse(10, i);
+        }
+    }
+    rows::accept()
+}
+
+// Row 10: the first node that is out of its bounds. All are asked before the place is looked for, as in row 8.
 fn nodes(n: usize, h: &[f64], state: &[f64]) -> Answer
     requires { ⌜ (length (now h) ≡ n) × (length (now state) ≡ stateRuns * n) ⌝ }
     ensures { λ r. ⌜ r ≡ scan (row10 n (now (h .entry)) (now (state .entry))) n ⌝ }
 {
-    let mut at = n;
+    let mut all = true;
     for i in 0..n {
-        at = rows::failed_first(n, at, i, limits::in_bounds(node_of(n, h, state, i)));
+        all = all & limits::in_bounds(node_of(n, h, state, i));
     }
-    rows::tested(n <= at, 10, at)
+    if all {
+        rows::accept()
+    } else {
+        refused_node(n, h, state)
+    }
 }
 
 // What the call asks before, the state's length, the mesh's rows, then row 10.

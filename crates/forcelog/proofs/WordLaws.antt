@@ -14,7 +14,8 @@ use Rattle.lists.specs.declared.rows.Answer.{Answer}
 use Rattle.frames.specs.Building.{laid}
 use Rattle.frames.specs.Frames.{lineFeed}
 use Rattle.forcelog.specs.declared.Words.{Words}
-use Rattle.forcelog.specs.Printed.{numeralOf, numeral, refusedWord, atWord, refusal, roomOfWords, words, joined}
+use Rattle.forcelog.specs.Printed.{numeralOf, numeral, refusedWord, atWord, refusal, roomOfWords, words}
+use Rattle.forcelog.specs.Private.{joined}
 
 -- ---- the fewest digits that hold a number are its numeral
 digits-numeral : (most k n : ℕ) → k ≤ most → Fewest 10 1 n k → digits 10 k n ≡ numeralOf most n

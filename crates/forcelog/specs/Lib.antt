@@ -3,3 +3,4 @@ pub mod Log
 pub mod Printed
 pub mod Empty
 pub mod Savable
+pub mod Private

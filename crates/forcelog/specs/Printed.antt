@@ -2,11 +2,10 @@
 use Prim.Native.Nat.{ℕ, zero, suc, _+_, _-_, _/_, _%_}
 use mathlib.Core.Bool.{cond}
 use mathlib.Core.List.{List, [], _∷_, _++_}
-use lib.Dec.{eqb, ltb, leb}
+use lib.Dec.{eqb, ltb}
 use lib.ListN.{length, take, drop, replicate}
 use Rattle.lists.specs.declared.rows.Answer.{Answer}
 use Rattle.frames.specs.Frames.{lineFeed}
-use Rattle.frames.specs.Building.{laid}
 use Rattle.mesh.specs.Lent.{N, E}
 use Rattle.saves.specs.Save.{saveText}
 use Rattle.forcelog.specs.declared.Log.{Log}
@@ -41,11 +40,6 @@ roomOfWords = 53
 
 unfoldable pub words : List ℕ → Words
 words t = record { bytes = t ++ replicate (roomOfWords - length t) 0; len = length t }
-
--- with t after it; unchanged where there is no room
-unfoldable pub joined : Words → List ℕ → Words
-joined w t =
-    cond (leb (w .len + length t) roomOfWords) (record { bytes = laid (w .bytes) (w .len) t; len = w .len + length t }) w
 
 -- ---- the whole
 -- "prints one save at the end"

@@ -6,7 +6,8 @@ use surge::Clock;
 ghost use mathlib.Core.Path.{_≡_};
 ghost use Rattle.saves.specs.Save.{saveOut};
 ghost use Rattle.forcelog.specs.Log.{coldLog, stepped, refusedAt, afterStep, takeOf, endOf};
-ghost use Rattle.forcelog.specs.Printed.{refusal, words, joined};
+ghost use Rattle.forcelog.specs.Printed.{refusal, words};
+ghost use Rattle.forcelog.specs.Private.{joined};
 ghost use Prim.Native.Nat.{_<_};
 
 // Mesh T.

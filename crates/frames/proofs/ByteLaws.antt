@@ -13,7 +13,8 @@ use lib.ListN.{length, take, drop, getD, length-append, length-drop}
 use lib.Seq.{drop-cons, take-suc, take-all, take-take, getD-drop}
 use Rattle.lists.specs.Scan.{row, _then_, scan}
 use Rattle.lists.proofs.ScanLaws.{row-passed, scan-clean}
-use Rattle.frames.specs.Bytes.{digit, worth, isDigit, areDigits, digits, byte, bytes, allDigits, field, number, sum}
+use Rattle.frames.specs.Bytes.{digit, worth, isDigit, digits, byte, bytes, allDigits, field, number, sum}
+use Rattle.frames.specs.Private.{areDigits}
 
 -- ---- a digit is worth what it was written for: each of the sixteen
 worth-digit : (n : ℕ) → n < 16 → worth (digit n) ≡ n

@@ -7,7 +7,8 @@ use native.Mathlib.Omega.{arith}
 use lib.Dec.{lit<}
 use lib.ListN.{length, take, length-append}
 use Rattle.frames.specs.Bytes.{digits, bytes, field, sum, check}
-use Rattle.frames.specs.Frames.{Field, Frame, allFields, fieldBytes, checked, frameBytes, lineFeed, text, widthsOf, digitsOf, byteOf}
+use Rattle.frames.specs.Frames.{Field, Frame, allFields, fieldBytes, checked, frameBytes, lineFeed, text, digitsOf, byteOf}
+use Rattle.frames.specs.Private.{widthsOf}
 use Rattle.frames.specs.Building.{longest, holding, withFields, begun, sealed}
 use Rattle.frames.proofs.ByteLaws.{Bytes, bytes-join, field-bytes, bytes-back, digits-join, digits-length, field-length, sum-join}
 use Rattle.frames.proofs.BuildLaws.{written-holding, appended-holding}

@@ -5,7 +5,8 @@ use mathlib.Core.List.{[], _∷_}
 use lib.Dec.{lit<, lit≤}
 use lib.IntN.{pos}
 use lib.Ieee.{nan, fin, binary64, toBits, ofBits}
-use Rattle.frames.specs.Frames.{Frame, wide, text, widthsOf, digitsOf}
+use Rattle.frames.specs.Frames.{Frame, wide, text, digitsOf}
+use Rattle.frames.specs.Private.{widthsOf}
 use Rattle.frames.specs.Reading.{value}
 use Rattle.frames.proofs.BackLaws.{field-back}
 

@@ -2,7 +2,7 @@
 use Prim.Native.Nat.{ℕ, zero, suc, _+_, _-_, _*_, _/_, _%_, _^_}
 use mathlib.Core.List.{List, [], _∷_, _++_}
 use mathlib.Core.Bool.{Bool, true, _&&_, cond}
-use lib.ListN.{length, getD}
+use lib.ListN.{length}
 use lib.Dec.{leb, ltb}
 
 -- "Upper-case hexadecimal": 0 to 9 are the characters 48 to 57, A to F the characters 65 to 70
@@ -31,11 +31,7 @@ bytes [] = []
 bytes (a ∷ []) = []
 bytes (a ∷ b ∷ t) = byte a b ∷ bytes t
 
--- the characters of byte k are digits
-abbrev pub areDigits : List ℕ → ℕ → Bool
-areDigits t k = isDigit (getD t (2 * k) 0) && isDigit (getD t (2 * k + 1) 0)
-
--- and each of these characters is a digit
+-- each of the characters that these bytes are made of is a digit
 unfoldable pub allDigits : List ℕ → Bool
 allDigits [] = true
 allDigits (a ∷ []) = true

@@ -1,7 +1,6 @@
 -- Document 01, "Frames": a frame as its kind, its sequence and its fields, and the line of text that it is.
-use Prim.Native.Nat.{ℕ, zero, suc, _+_, _*_, _^_, _<_, _≤_}
+use Prim.Native.Nat.{ℕ, zero, suc, _+_, _*_}
 use mathlib.Core.List.{List, [], _∷_, _++_}
-use lib.ListN.{getD}
 use lib.Ieee.{Float, binary64, toBits}
 use Rattle.frames.specs.Bytes.{digits, field, check}
 
@@ -62,10 +61,6 @@ abbrev pub bits : Float → ℕ
 bits x = toBits binary64 x
 
 -- ---- what follows from how many bytes each field has
-abbrev pub widthsOf : List Field → List ℕ
-widthsOf [] = []
-widthsOf (f ∷ fs) = f .width ∷ widthsOf fs
-
 -- a line's digits, as in "56 digits": two for each byte of kind, sequence, fields and check byte
 abbrev pub digitsOf : List ℕ → ℕ
 digitsOf [] = 8
@@ -76,12 +71,3 @@ abbrev pub byteOf : List ℕ → ℕ → ℕ
 byteOf ws zero = 3
 byteOf [] (suc j) = 3
 byteOf (w ∷ ws) (suc j) = w + byteOf ws j
-
--- ---- field j of a frame, from 0
-abbrev pub fieldAt : List Field → ℕ → Field
-fieldAt fields j = getD fields j (wide 0 0)
-
--- a value that its field can hold
-pub record InField (f : Field) : Type 0 where
-  pub narrow : f .width ≤ 8
-  pub small : f .value < 256 ^ f .width

@@ -7,7 +7,6 @@ use lib.Dec.{leb, eqb}
 use lib.Ieee.{Float, binary64, ofBits}
 use Rattle.lists.specs.declared.rows.Answer.{Answer}
 use Rattle.lists.specs.Scan.{row, _then_}
-use Rattle.frames.specs.declared.digits.Tally.{Tally}
 use Rattle.frames.specs.Bytes.{bytes, allDigits, number, sum}
 use Rattle.frames.specs.Frames.{lineFeed}
 
@@ -42,7 +41,3 @@ row22 line kind sequence place = row (eqb (value line 0 1) kind && eqb (value li
 -- "in each 20, 21, 22"
 unfoldable pub fault : List ℕ → ℕ → ℕ → ℕ → ℕ → Answer
 fault line due kind sequence place = row20 line due place then row21 line place then row22 line kind sequence place
-
--- what one pass over a text gives: the sum of its bytes, and whether they are made of digits
-unfoldable pub tallied : List ℕ → Tally
-tallied text = record { sum = sum (bytes text) % 256; right = allDigits text }

@@ -2,8 +2,8 @@
 ghost use mathlib.Core.Path.{_≡_};
 ghost use Prim.Native.Nat.{_+_, _*_, _<_, _≤_};
 ghost use lib.ListN.{length, take, getD};
-ghost use Rattle.frames.specs.Bytes.{digit, worth, bytes, areDigits};
-ghost use Rattle.frames.specs.Reading.{tallied};
+ghost use Rattle.frames.specs.Bytes.{digit, worth, bytes};
+ghost use Rattle.frames.specs.Private.{areDigits, tallied};
 
 pub(crate) fn digit(n: u8) -> u8
     requires { ⌜ n < 16 ⌝ }

@@ -1,23 +1,13 @@
 -- Document 01, "Triangle geometry", on single values.
-use Prim.Native.Nat.{ℕ, zero, suc}
+use Prim.Native.Nat.{ℕ}
 use mathlib.Core.Bool.{Bool, _&&_, cond}
 use lib.IntN.{ℤ, pos, negsuc, natAbs, _-ℤ_, _*ℤ_}
 use lib.Dec.{leb}
 use lib.Ieee.{binary64, ofInt}
 use Rattle.lists.specs.Gather.{Three}
-use Rattle.geometry.specs.declared.Corners.{Corners}
 use Rattle.geometry.specs.declared.Places.{Places}
 use Rattle.geometry.specs.declared.WholeSides.{WholeSides}
 use Rattle.equations.specs.declared.Sides.{Sides}
-
-abbrev pub nodesOf : Corners → Three ℕ
-nodesOf c = record { first = c .n1; second = c .n2; third = c .n3 }
-
--- the corner j, from 0, of three
-abbrev pub nth : Three ℕ → ℕ → ℕ
-nth c zero = c .first
-nth c (suc zero) = c .second
-nth c (suc (suc j)) = c .third
 
 -- the coordinates of three corners
 abbrev pub eastOf : Places → Three ℤ
@@ -51,17 +41,20 @@ near v = leb (natAbs v) 100000
 unfoldable pub allNear : WholeSides → Bool
 allNear s = near (s .a1) && near (s .a2) && near (s .a3) && near (s .b1) && near (s .b2) && near (s .b3)
 
--- "all become floats without loss"
-unfoldable pub floats : WholeSides → Sides
-floats s = record {
+-- "all become floats without loss": a and b, and this d
+abbrev pub floatsWith : WholeSides → ℤ → Sides
+floatsWith s d = record {
   a1 = ofInt binary64 (s .a1);
   a2 = ofInt binary64 (s .a2);
   a3 = ofInt binary64 (s .a3);
   b1 = ofInt binary64 (s .b1);
   b2 = ofInt binary64 (s .b2);
   b3 = ofInt binary64 (s .b3);
-  d = ofInt binary64 (D s);
+  d = ofInt binary64 d;
 }
+
+unfoldable pub floats : WholeSides → Sides
+floats s = floatsWith s (D s)
 
 -- ---- the same for any sides: D where row 4 accepts them, and 0 where it does not
 unfoldable pub nearD : WholeSides → ℤ
@@ -73,12 +66,4 @@ counted (pos n) = n
 counted (negsuc n) = 0
 
 unfoldable pub nearFloats : WholeSides → Sides
-nearFloats s = record {
-  a1 = ofInt binary64 (s .a1);
-  a2 = ofInt binary64 (s .a2);
-  a3 = ofInt binary64 (s .a3);
-  b1 = ofInt binary64 (s .b1);
-  b2 = ofInt binary64 (s .b2);
-  b3 = ofInt binary64 (s .b3);
-  d = ofInt binary64 (nearD s);
-}
+nearFloats s = floatsWith s (nearD s)

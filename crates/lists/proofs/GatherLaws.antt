@@ -13,7 +13,8 @@ use lib.ListN.{length, getD, set, length-set}
 use lib.Seq.{getD-set-same, getD-set-other}
 use Rattle.lists.specs.Table.{table}
 use Rattle.lists.specs.Runs.{runsOf}
-use Rattle.lists.specs.Gather.{Three, Below, Adding, whole, past, plusIf, joined, gathered, addedAt, spread}
+use Rattle.lists.specs.Gather.{Three, Adding, whole, plusIf, joined, gathered}
+use Rattle.lists.specs.Private.{Below, past, addedAt, spread}
 use Rattle.lists.proofs.TableLaws.{putAt, getD-table, set-table}
 use Rattle.lists.proofs.RunLaws.{run-read, run-write}
 

@@ -11,7 +11,8 @@ use lib.ListN.{length, getD, set, take, drop, length-append, length-drop, take-a
 use lib.Seq.{getD-append-add, set-append-left, take-append-add, drop-at, drop-drop, getD-take, getD-drop, length-take-le}
 use borrow.Rule.Slice.PartMut.{midOf, putMid, post-is}
 use Rattle.lists.specs.Table.{table, copied}
-use Rattle.lists.specs.Runs.{isRuns, runsOf, withRun}
+use Rattle.lists.specs.Runs.{isRuns, runsOf}
+use Rattle.lists.specs.Private.{withRun}
 use Rattle.lists.proofs.TableLaws.{length-table, getD-table, is-table, table-same, table-join, set-table, copied-whole, putAt}
 
 -- the next run starts n further on

@@ -1,15 +1,15 @@
 -- Laws of `row`, `_then_`, `scan` and `some`, which the proof of each row cites.
-use Prim.Native.Nat.{ℕ, zero, suc, _+_, _<_, _≤_}
+use Prim.Native.Nat.{ℕ, zero, suc, _+_, _<_}
 use mathlib.Core.Path.{_≡_, refl, sym, ap, _∙_}
-use mathlib.Core.Bool.{Bool, true, false, _||_, _&&_, cond}
+use mathlib.Core.Bool.{Bool, true, false, _||_, _&&_}
 use mathlib.Core.Logic.{⊎-elim}
 use native.Mathlib.Nat.{not-suc-le-zero, le-of-suc-le-suc, eq-or-lt-of-le}
 use native.Mathlib.Numerals.{add-one}
 use native.Mathlib.Omega.{arith}
-use borrow.Author.Tests.{ltb-true, ltb-false, leb-true, leb-false, eqb-true, eqb-false, ne-eqb}
-use lib.Dec.{eqb, ltb, leb}
+use borrow.Author.Tests.{eqb-true, eq-eqb, ne-eqb}
+use lib.Dec.{eqb}
 use Rattle.lists.specs.declared.rows.Answer.{Answer}
-use Rattle.lists.specs.Scan.{accepted, refused, row, _then_, scan, failedFirst, some}
+use Rattle.lists.specs.Scan.{accepted, refused, row, _then_, scan, some}
 
 -- ---- one row
 pub row-holds : {test : Bool} (number place : ℕ) → test ≡ true → row test number place ≡ accepted
@@ -85,70 +85,67 @@ both-right true b e = e
 both-right false true e = refl
 both-right false false e = e
 
--- ---- a loop that asks every place: `at` is the first place below i at which f refuses, and n where there is none
-pub record Found (f : ℕ → Answer) (n i at : ℕ) : Type 0 where
-  pub most : at ≤ n
-  pub fine : (k : ℕ) → k < i → k < at → f k .number ≡ 0
-  pub stop : at < n → (at < i) × (f at .number ≡ 0 → ⊥)
+-- ---- a loop that asks every place and is not left: whether all those that were asked accept
+and-true : (b : Bool) → (b && true) ≡ b
+and-true true = refl
+and-true false = refl
 
-module _ {f : ℕ → Answer} {n : ℕ} where
-  pub found-none : Found f n 0 n
-  found-none = record { most = omega arith; fine = λ k l _. absurd (not-suc-le-zero l); stop = λ l. absurd (omega arith) }
+and-assoc : (a b c : Bool) → (a && (b && c)) ≡ ((a && b) && c)
+and-assoc true b c = refl
+and-assoc false b c = refl
 
-  pub found-more : {i at : ℕ} (holds : Bool) → i < n → holds ≡ eqb (f i .number) 0 → Found f n i at → Found f n (i + 1) (failedFirst n at i holds)
-  unfolding failedFirst
-  found-more {i} {at} true l e v = go (ltb n at) refl
-    where
-      here : (k : ℕ) → k < i + 1 → k < at → f k .number ≡ 0
-      here k a b = ⊎-elim (λ (p : k ≡ i). rw p (eqb-true _ _ (sym e))) (λ p. v .fine k p b) (eq-or-lt-of-le (le-of-suc-le-suc (rw (add-one i) at a)))
+then-accepts : (a b : Answer) → eqb ((a then b) .number) 0 ≡ (eqb (a .number) 0 && eqb (b .number) 0)
+then-accepts a b = go (a .number) refl
+  where
+    go : (n : ℕ) → a .number ≡ n → eqb ((a then b) .number) 0 ≡ (eqb (a .number) 0 && eqb (b .number) 0)
+    go zero e = rw (then-next a b e, eq-eqb (a .number) 0 e)
+    go (suc n) e = let r : a .number ≡ 0 → ⊥ = λ z. absurd (omega (arith, e, z)) in rw (then-stop a b r, ne-eqb (a .number) 0 r)
 
-      go : (b : Bool) → ltb n at ≡ b → Found f n (i + 1) (cond b n at)
-      go true q = absurd (omega (arith, ltb-true n at q, v .most))
-      go false q = record { most = v .most; fine = here; stop = λ m. (omega (arith, v .stop m .0), v .stop m .1) }
-  found-more {i} {at} false l e v = go (ltb i at) refl
-    where
-      before : (m : ℕ) → m ≤ at → m ≤ i → (k : ℕ) → k < i + 1 → k < m → f k .number ≡ 0
-      before m p q k a b = v .fine k (omega arith) (omega arith)
+scan-accepts : (f : ℕ → Answer) (n : ℕ) → eqb (scan f (suc n) .number) 0 ≡ (eqb (scan f n .number) 0 && eqb (f n .number) 0)
+unfolding scan
+scan-accepts f zero = then-accepts (f 0) accepted ∙ and-true _
+scan-accepts f (suc n) =
+    let g : ℕ → Answer = λ k. f (suc k) in
+    then-accepts (f 0) (scan g (suc n))
+    ∙ ap (λ (b : Bool). eqb (f 0 .number) 0 && b) (scan-accepts g n)
+    ∙ and-assoc (eqb (f 0 .number) 0) (eqb (scan g n .number) 0) (eqb (g n .number) 0)
+    ∙ ap (λ (b : Bool). b && eqb (g n .number) 0) (sym (then-accepts (f 0) (scan g n)))
 
-      go : (b : Bool) → ltb i at ≡ b → Found f n (i + 1) (cond b i at)
-      go true q = record {
-        most = omega arith;
-        fine = before i (omega (arith, ltb-true i at q)) (omega arith);
-        stop = λ m. (omega arith, eqb-false _ _ (sym e));
-      }
-      go false q =
-          let h : at ≤ i = ltb-false i at q in
-          record { most = v .most; fine = before at (omega arith) h; stop = λ m. (omega arith, v .stop m .1) }
+pub all-none : (f : ℕ → Answer) → true ≡ eqb (scan f 0 .number) 0
+unfolding scan
+all-none f = refl
 
-  -- after the last place
-  pub found-one : {at : ℕ} → Found f n n at → at < n → f at ≡ scan f n
-  found-one {at} v l = sym (scan-hit f n at l (λ k h. v .fine k (omega arith) h) (v .stop l .1))
+module _ (f : ℕ → Answer) (n : ℕ) {all : Bool} (e : all ≡ eqb (scan f n .number) 0) where
+  pub all-more : {holds : Bool} → holds ≡ eqb (f n .number) 0 → (all && holds) ≡ eqb (scan f (n + 1) .number) 0
+  all-more h = (λ i. e i && h i) ∙ sym (scan-accepts f n) ∙ rw add-one
 
-  pub found-all : {at : ℕ} → Found f n n at → n ≤ at → accepted ≡ scan f n
-  found-all {at} v l = sym (scan-none f n (λ k h. v .fine k h (omega arith)))
+  pub all-accept : all ≡ true → accepted ≡ scan f n
+  all-accept h = sym (scan-none f n (scan-clean f n (eqb-true _ _ (sym e ∙ h))))
 
--- the same for a row of one number
-told : (test : Bool) (number place : ℕ) → test ≡ eqb (row test (suc number) place .number) 0
-unfolding row
-told true number place = refl
-told false number place = sym (ne-eqb (suc number) 0 (λ e. absurd (omega (arith, e))))
+-- ---- a row of one number: it accepts where its test holds
+module _ (test : ℕ → Bool) (number : ℕ) where
+  abbrev rowOf : ℕ → Answer
+  rowOf i = row (test i) (suc number) i
 
-abbrev rowOf : (ℕ → Bool) → ℕ → ℕ → Answer
-rowOf test number i = row (test i) (suc number) i
-
-module _ (test : ℕ → Bool) (number n : ℕ) where
-  pub found-test : {i at : ℕ} {holds : Bool} → i < n → holds ≡ test i → Found (rowOf test number) n i at
-      → Found (rowOf test number) n (i + 1) (failedFirst n at i holds)
-  found-test {i} {at} {holds} l e v = found-more holds l (e ∙ told (test i) number i) v
-
-  pub found-row : {at : ℕ} → Found (rowOf test number) n n at → row (leb n at) (suc number) at ≡ scan (rowOf test number) n
+  pub row-accepts : (i : ℕ) → test i ≡ eqb (rowOf i .number) 0
   unfolding row
-  found-row {at} v = go (leb n at) refl (test at) refl
+  row-accepts i = go (test i)
     where
-      go : (b : Bool) → leb n at ≡ b → (t : Bool) → test at ≡ t → row b (suc number) at ≡ scan (rowOf test number) n
-      go true q t r = found-all v (leb-true n at q)
-      go false q true r = absurd (v .stop (leb-false n at q) .1 (rw r))
-      go false q false r = sym (rw r) ∙ found-one v (leb-false n at q)
+      go : (b : Bool) → b ≡ eqb (row b (suc number) i .number) 0
+      go true = refl
+      go false = sym (ne-eqb (suc number) 0 (λ e. absurd (omega (arith, e))))
+
+  held : {n : ℕ} → ((k : ℕ) → k < n → test k ≡ true) → (k : ℕ) → k < n → rowOf k .number ≡ 0
+  held h k l = ap (λ (a : Answer). a .number) (row-holds (suc number) k (h k l))
+
+  -- a loop that is left at the first place whose test fails
+  pub row-hit : {n i : ℕ} → i < n → ((k : ℕ) → k < i → test k ≡ true) → test i ≡ false → refused (suc number) i ≡ scan rowOf n
+  row-hit {n} {i} l h e =
+      let q = row-fails (suc number) i e in
+      sym q ∙ sym (scan-hit rowOf n i l (held h) (λ z. absurd (omega (arith, ap (λ (a : Answer). a .number) q, z))))
+
+  pub row-none : {n : ℕ} → ((k : ℕ) → k < n → test k ≡ true) → accepted ≡ scan rowOf n
+  row-none h = sym (scan-none rowOf _ (held h))
 
 -- ---- some place
 or-true : (b : Bool) → (b || true) ≡ true

@@ -11,7 +11,8 @@ use borrow.Author.Tests.{eqb-true, eqb-false}
 use lib.Dec.{eqb}
 use lib.ListN.{length, getD, set, length-set}
 use lib.Seq.{ext-getD, getD-set-same, getD-set-other, take-length, drop-length}
-use Rattle.lists.specs.Table.{table, upTo, copied}
+use Rattle.lists.specs.Table.{table, copied}
+use Rattle.lists.specs.Private.{upTo}
 
 module _ {A : Type 0} where
   pub length-table : (n : ℕ) (f : ℕ → A) → length (table n f) ≡ n

@@ -3,3 +3,4 @@ pub mod Table
 pub mod Runs
 pub mod Scan
 pub mod Gather
+pub mod Private

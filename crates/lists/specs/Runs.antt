@@ -1,9 +1,9 @@
 -- A slice of k runs of n: "The state is 4N numbers in four runs of N", and a work room likewise.
-use Prim.Native.Nat.{ℕ, suc, _+_, _*_}
+use Prim.Native.Nat.{ℕ, _+_, _*_}
 use mathlib.Core.Bool.{Bool}
 use mathlib.Core.List.{List, [], _∷_, _++_}
 use lib.Dec.{eqb}
-use lib.ListN.{getD, take, drop}
+use lib.ListN.{getD}
 use lib.Ieee.{Float, nan}
 use Rattle.lists.specs.Table.{table}
 
@@ -19,7 +19,3 @@ inRun n k l i = getD l (k * n + i) nan
 unfoldable pub runsOf : {A : Type 0} → ℕ → List (ℕ → A) → List A
 runsOf n [] = []
 runsOf n (f ∷ fs) = table n f ++ runsOf n fs
-
--- a list with run k written anew
-unfoldable pub withRun : {A : Type 0} → ℕ → ℕ → (ℕ → A) → List A → List A
-withRun n k f l = take (k * n) l ++ (table n f ++ drop (suc k * n) l)

@@ -1,7 +1,6 @@
 -- Document 01, "Refusal table": what a row answers, rows in order, and the first place at which a row refuses.
 use Prim.Native.Nat.{ℕ, zero, suc}
-use mathlib.Core.Bool.{Bool, true, false, _||_, cond}
-use lib.Dec.{ltb}
+use mathlib.Core.Bool.{Bool, true, false, _||_}
 use Rattle.lists.specs.declared.rows.Answer.{Answer}
 use Rattle.lists.specs.Numbers.{plus0}
 
@@ -31,10 +30,6 @@ a then b = unless (a .number)
 unfoldable pub scan : (ℕ → Answer) → ℕ → Answer
 scan f zero = accepted
 scan f (suc n) = f zero then scan (λ k. f (suc k)) n
-
--- of n places asked in turn, the first that failed its test so far, where it was `at` before place i was asked; n where none did
-unfoldable pub failedFirst : ℕ → ℕ → ℕ → Bool → ℕ
-failedFirst n at i holds = let here = cond holds n i in cond (ltb here at) here at
 
 -- some place below n passes a test
 unfoldable pub some : (ℕ → Bool) → ℕ → Bool

@@ -14,10 +14,6 @@ table (suc n) f = f zero ∷ table n (λ k. f (suc k))
 abbrev pub zeros : ℕ → List Float
 zeros n = table n (λ _. plus0)
 
--- l with its first n places written anew: what a loop that writes the places 0, 1, .. in turn has made of l after n of them
-unfoldable pub upTo : {A : Type 0} → ℕ → (ℕ → A) → List A → List A
-upTo n f l = table n f ++ drop n l
-
 -- as many places of `to` as both have, written from `from`
 unfoldable pub copied : {A : Type 0} → List A → List A → List A
 copied from to = take (length to) from ++ drop (length from) to

@@ -1,7 +1,7 @@
 // What a row of the refusal table answers.
 ghost use mathlib.Core.Path.{_≡_};
 ghost use Rattle.lists.specs.Numbers.{within};
-ghost use Rattle.lists.specs.Scan.{accepted, refused, row, _then_, failedFirst};
+ghost use Rattle.lists.specs.Scan.{accepted, refused, row, _then_};
 
 // Number, place and value. Number 0 accepts.
 pub struct Answer {
@@ -42,15 +42,6 @@ pub fn first(a: Answer, b: Answer) -> Answer
     ensures { λ r. ⌜ r ≡ (a then b) ⌝ }
 {
     if a.number == 0 { b } else { a }
-}
-
-// Of n places asked in turn, the first that failed its test so far, n where none did: `at` before place i was asked. Nothing leaves a loop that asks
-// so, and a compiler can ask several places at once.
-pub fn failed_first(n: usize, at: usize, i: usize, holds: bool) -> usize
-    ensures { λ r. ⌜ r ≡ failedFirst n at i holds ⌝ }
-{
-    let here = if holds { n } else { i };
-    if here < at { here } else { at }
 }
 
 // A NaN is outside every range.

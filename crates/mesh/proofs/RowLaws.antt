@@ -13,11 +13,13 @@ use lib.Signed.{ltZ}
 use lib.ListN.{length, getD, set}
 use lib.Seq.{getD-set-same, getD-set-other}
 use Rattle.lists.specs.declared.rows.Answer.{Answer}
-use Rattle.lists.specs.Gather.{Three, Below}
+use Rattle.lists.specs.Gather.{Three}
+use Rattle.lists.specs.Private.{Below}
 use Rattle.lists.specs.Scan.{refused, row, _then_, scan, some}
 use Rattle.lists.proofs.ScanLaws.{then-assoc, row-holds, row-fails, both-left, both-right, some-none, some-hit, some-more}
 use Rattle.mesh.specs.Lent.{Mesh, E, corner, corners}
-use Rattle.geometry.specs.Geometry.{nth, D, allNear}
+use Rattle.geometry.specs.Geometry.{D, allNear}
+use Rattle.geometry.specs.Private.{nth}
 use Rattle.mesh.specs.Geometry.{sides}
 use Rattle.mesh.specs.Rows.{allBelow, row1, row2, row3, row4, row5, triangleRows, isLeg, legSeen, row6, shapeRows}
 

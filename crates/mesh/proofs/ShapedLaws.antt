@@ -12,7 +12,7 @@ use lib.Signed.{ltZ}
 use lib.ListN.{length, getD}
 use lib.Ieee.{Float, nan}
 use Rattle.lists.specs.declared.rows.Answer.{Answer}
-use Rattle.lists.specs.Gather.{Below}
+use Rattle.lists.specs.Private.{Below}
 use Rattle.lists.specs.Scan.{accepted, _then_}
 use Rattle.lists.specs.Numbers.{within, decimal}
 use Rattle.lists.proofs.ScanLaws.{row-passed, then-next, then-first, then-rest, scan-clean, both-left, both-right}

@@ -29,21 +29,40 @@ pub(crate) fn named(n: usize, tri: &[u16]) -> Answer
     ensures { λ r. ⌜ r ≡ scan (row7 (now (tri .entry))) n ⌝ }
 {
     let seen = marks(tri);
-    let mut at = n;
     for i in 0..n {
-        at = rows::failed_first(n, at, i, seen[i]);
+        if !seen[i] {
+            return rows::refuse(7, i);
+        }
     }
-    rows::tested(n <= at, 7, at)
+    rows::accept()
 }
 
-// Row 8: the first node whose depth or kind is out of range.
+// Row 8, where some node is refused: the first of them.
+fn refused_depth(n: usize, h: &[f64], kind: &[u8]) -> Answer
+    requires { ⌜ (length (now h) ≡ n) × (length (now kind) ≡ n) ⌝ }
+    ensures { λ r. ⌜ r ≡ scan (row8 (now (h .entry)) (now (kind .entry))) n ⌝ }
+{
+    for i in 0..n {
+        if !limits::is_node(h[i], kind[i]) {
+            return rows::refuse(8, i);
+        }
+    }
+    rows::accept()
+}
+
+// Row 8: the first node whose depth or kind is out of range. All are asked before the place is looked for: nothing leaves the loop, so that a compiler
+// can ask several nodes at once.
 pub(crate) fn depths(n: usize, h: &[f64], kind: &[u8]) -> Answer
     requires { ⌜ (length (now h) ≡ n) × (length (now kind) ≡ n) ⌝ }
     ensures { λ r. ⌜ r ≡ scan (row8 (now (h .entry)) (now (kind .entry))) n ⌝ }
 {
-    let mut at = n;
+    let mut all = true;
     for i in 0..n {
-        at = rows::failed_first(n, at, i, limits::is_node(h[i], kind[i]));
+        all = all & limits::is_node(h[i], kind[i]);
     }
-    rows::tested(n <= at, 8, at)
+    if all {
+        rows::accept()
+    } else {
+        refused_depth(n, h, kind)
+    }
 }

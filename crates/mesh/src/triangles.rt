@@ -7,10 +7,10 @@ use lists::rows::Answer;
 ghost use mathlib.Core.Path.{_≡_};
 ghost use Prim.Native.Nat.{_+_, _*_, _/_, _%_, _<_};
 ghost use lib.ListN.{length};
-ghost use Rattle.lists.specs.Gather.{Below};
+ghost use Rattle.lists.specs.Private.{Below};
 ghost use Rattle.lists.specs.Scan.{scan};
-ghost use Rattle.geometry.specs.Geometry.{nodesOf, nth};
-ghost use Rattle.mesh.specs.Geometry.{placesOf};
+ghost use Rattle.geometry.specs.Private.{nodesOf, nth};
+ghost use Rattle.mesh.specs.Private.{placesOf};
 ghost use Rattle.mesh.specs.Rows.{triangleRows, isLeg, row6};
 
 // The coordinates of a triangle's corners.

@@ -10,7 +10,10 @@ use lib.ListN.{getD, set, List·getD-eq-default}
 use lib.Ieee.{Float, nan}
 use Rattle.lists.specs.Table.{table}
 use Rattle.lists.specs.Runs.{inRun, runsOf}
-use Rattle.lists.specs.Gather.{Three, alike, whole, past, gathered, Below, spread}
+use Rattle.lists.specs.Gather.{Three, alike, whole, gathered}
+use Rattle.lists.specs.Private.{past, Below, spread}
+use Rattle.lists.specs.Scan.{scan}
+use Rattle.lists.proofs.ScanLaws.{scan-same}
 use Rattle.lists.proofs.TableLaws.{length-table, getD-table}
 use Rattle.lists.proofs.RunLaws.{in-runs, run-read, run-same, run-turn, turned, turn-none, turn-here, turn-all}
 use Rattle.lists.proofs.GatherLaws.{gather-more, gather-run, gathered-le}
@@ -23,14 +26,16 @@ use Rattle.equations.specs.Elevation.{shares, slope}
 use Rattle.geometry.specs.declared.Places.{Places}
 use Rattle.geometry.specs.declared.Corners.{Corners}
 use Rattle.geometry.specs.declared.WholeSides.{WholeSides}
-use Rattle.geometry.specs.Geometry.{nodesOf, nearD, counted, nearFloats, sidesAt}
+use Rattle.geometry.specs.Geometry.{nearD, counted, nearFloats, sidesAt}
+use Rattle.geometry.specs.Private.{nodesOf}
 use Rattle.geometry.proofs.GeometryLaws.{near-floats, near-count}
 use Rattle.mesh.specs.Lent.{E}
-use Rattle.mesh.specs.Geometry.{placesOf, sides, area}
-use Rattle.mesh.specs.Private.{Sound}
+use Rattle.mesh.specs.Geometry.{sides, area}
+use Rattle.mesh.specs.Private.{placesOf, Sound}
 use Rattle.mesh.proofs.SideLaws.{sides-read}
 use Rattle.passes.specs.declared.velocity.Slope.{Slope}
 use Rattle.passes.specs.Equations.{Given, count, node, kindOf, cornersOf, floatsAt, floating, threeOf, sharesAt, R, S, riseOf, rise, both, slopeX, slopeY, Px, Py, flowOf, pushOf, flowAt, U′, V′}
+use Rattle.passes.specs.Row13.{riseRow, riseRows, flowRow, flowRows}
 use Rattle.passes.specs.Private.{Fits, zero, sumRoom, riseRoom, slopeRoom, flowRoom, bothOf, slopeOf}
 
 -- ---- the work room while a pass is made: the triangles below t, or the nodes below i, are done
@@ -200,3 +205,17 @@ module _ (g : Given) where
   flow-all =
       run-same (count g) (rise g ∷ zero ∷ turned (count g) (V′ g) (Py g) ∷ []) 1 (turned (count g) (U′ g) (Px g)) (U′ g) (turn-all (U′ g) (Px g) (count g))
       ∙ run-same (count g) (rise g ∷ U′ g ∷ zero ∷ []) 2 (turned (count g) (V′ g) (Py g)) (V′ g) (turn-all (V′ g) (Py g) (count g))
+
+  -- row 13, as it is asked of the work room
+  pub rises-read : {n : ℕ} {h work : List Float} → h ≡ g .mesh .h → work ≡ riseRoom g → n ≡ count g
+      → scan (λ i. riseRow (getD h i nan) (inRun n 0 work i) i) n ≡ riseRows g
+  rises-read eh ew en =
+      (λ j. scan (λ i. riseRow (getD (eh j) i nan) (inRun (en j) 0 (ew j) i) i) (en j))
+      ∙ scan-same _ _ (count g) (λ i l. ap (λ (v : Float). riseRow (node g i .h) v i) (run-read (count g) (rise g ∷ zero ∷ zero ∷ []) 0 i nan (lit< tt) l))
+
+  pub flows-read : {n : ℕ} {work : List Float} → work ≡ flowRoom g → n ≡ count g
+      → scan (λ i. flowRow (record { u = inRun n 1 work i; v = inRun n 2 work i }) i) n ≡ flowRows g
+  flows-read ew en =
+      let fs = rise g ∷ U′ g ∷ V′ g ∷ [] in
+      (λ j. scan (λ i. flowRow (record { u = inRun (en j) 1 (ew j) i; v = inRun (en j) 2 (ew j) i }) i) (en j))
+      ∙ scan-same _ _ (count g) (λ i l j. flowRow (record { u = run-read (count g) fs 1 i nan (lit< tt) l j; v = run-read (count g) fs 2 i nan (lit< tt) l j }) i)

@@ -11,7 +11,8 @@ use lib.Ieee.{Float, nan}
 use Rattle.lists.specs.declared.rows.Answer.{Answer}
 use Rattle.lists.specs.Numbers.{plus0}
 use Rattle.lists.specs.Table.{table, zeros}
-use Rattle.lists.specs.Runs.{isRuns, inRun, runsOf, withRun}
+use Rattle.lists.specs.Runs.{isRuns, inRun, runsOf}
+use Rattle.lists.specs.Private.{withRun}
 use Rattle.lists.specs.Scan.{_then_}
 use Rattle.lists.proofs.ScanLaws.{row-passed, then-first, other-number, both-left, both-right}
 use Rattle.lists.proofs.RunLaws.{run-read, run-put, run-same, runs-alike, as-runs}

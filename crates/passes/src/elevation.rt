@@ -18,9 +18,10 @@ ghost use mathlib.Core.Path.{_≡_};
 ghost use Prim.Native.Nat.{_*_};
 ghost use lib.ListN.{length};
 ghost use Rattle.lists.specs.Table.{table};
-ghost use Rattle.lists.specs.Gather.{Below};
+ghost use Rattle.lists.specs.Private.{Below};
 ghost use Rattle.equations.specs.Elevation.{shares};
-ghost use Rattle.geometry.specs.Geometry.{nodesOf, sidesAt, nearFloats};
+ghost use Rattle.geometry.specs.Geometry.{sidesAt, nearFloats};
+ghost use Rattle.geometry.specs.Private.{nodesOf};
 ghost use Rattle.mesh.specs.Lent.{mesh};
 ghost use Rattle.bounds.specs.State.{stateRuns, nodeOf};
 ghost use Rattle.passes.specs.Equations.{Given, given, count, S, riseOf};
@@ -95,7 +96,21 @@ fn rise_row(h: f64, z: f64, i: usize) -> Answer
     outcomes::answer(outcomes::of_rise(h, z), i)
 }
 
-// R of every node becomes its z', and row 13 is asked of it.
+// Row 13 of z', where some node is refused: the first of them.
+pub(crate) fn refused_rise(n: usize, h: &[f64], work: &[f64]) -> Answer
+    requires { ⌜ (length (now h) ≡ n) × (length (now work) ≡ workRuns * n) ⌝ }
+    ensures { λ a. ⌜ ((g : Given) → now (h .entry) ≡ g .mesh .h → now (work .entry) ≡ riseRoom g → n ≡ count g → a ≡ riseRows g) ⌝ }
+{
+    for i in 0..n {
+        let answer = rise_row(h[i], work[0 * n + i], i);
+        if answer.number != 0 {
+            return answer;
+        }
+    }
+    rows::accept()
+}
+
+// R of every node becomes its z', and row 13 is asked of it: of all before the place is looked for, as in row 8.
 pub(crate) fn rises(
     work: &mut [f64],
     sums: &[u64],
@@ -116,16 +131,16 @@ pub(crate) fn rises(
     ensures { λ g a. ⌜ (a ≡ riseRows g) × (now (work .exit) ≡ riseRoom g) ⌝ }
 {
     let n = x.len();
-    let mut at = n;
+    let mut all = true;
     for i in 0..n {
         let c = state::node_of(n, h, state, i);
         let z = rise_of(p, kind[i], f.elevation, c, sums[i], work[0 * n + i]);
         work[0 * n + i] = z;
-        at = rows::failed_first(n, at, i, rise_row(c.h, z, i).number == 0);
+        all = all & (rise_row(c.h, z, i).number == 0);
     }
-    if at < n {
-        rise_row(h[at], work[0 * n + at], at)
-    } else {
+    if all {
         rows::accept()
+    } else {
+        refused_rise(n, h, work)
     }
 }

@@ -3,9 +3,9 @@ use geometry::Corners;
 use geometry::Places;
 ghost use mathlib.Core.Path.{_≡_};
 ghost use lib.ListN.{length};
-ghost use Rattle.lists.specs.Gather.{Below};
-ghost use Rattle.geometry.specs.Geometry.{nodesOf};
-ghost use Rattle.mesh.specs.Geometry.{placesOf};
+ghost use Rattle.lists.specs.Private.{Below};
+ghost use Rattle.geometry.specs.Private.{nodesOf};
+ghost use Rattle.mesh.specs.Private.{placesOf};
 
 // The coordinates of a triangle's corners.
 pub(crate) fn places_at(x: &[i32], y: &[i32], c: Corners) -> Places

@@ -5,8 +5,9 @@ ghost use mathlib.Core.Path.{_≡_};
 ghost use Prim.Native.Nat.{ℕ, _+_, _*_, _^_, _<_};
 ghost use lib.ListN.{length, getD};
 ghost use lib.Ieee.{nan};
-ghost use Rattle.lists.specs.Gather.{Below, alike, whole, past, addedAt, spread};
-ghost use Rattle.geometry.specs.Geometry.{nodesOf};
+ghost use Rattle.lists.specs.Gather.{alike, whole};
+ghost use Rattle.lists.specs.Private.{Below, past, addedAt, spread};
+ghost use Rattle.geometry.specs.Private.{nodesOf};
 ghost use Rattle.passes.specs.Equations.{threeOf, floating};
 
 // Adds a value at one place.

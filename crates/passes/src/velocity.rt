@@ -19,8 +19,9 @@ ghost use mathlib.Core.Path.{_≡_};
 ghost use Prim.Native.Nat.{_*_, _<_};
 ghost use lib.ListN.{length, getD};
 ghost use Rattle.lists.specs.Table.{table};
-ghost use Rattle.lists.specs.Gather.{Below, alike};
-ghost use Rattle.geometry.specs.Geometry.{nodesOf};
+ghost use Rattle.lists.specs.Gather.{alike};
+ghost use Rattle.lists.specs.Private.{Below};
+ghost use Rattle.geometry.specs.Private.{nodesOf};
 ghost use Rattle.mesh.specs.Lent.{mesh};
 ghost use Rattle.bounds.specs.State.{stateRuns, nodeOf};
 ghost use Rattle.passes.specs.Equations.{Given, given, count, S, threeOf, flowOf, pushOf};
@@ -146,7 +147,23 @@ fn flow_row(v: Flow, i: usize) -> Answer
     rows::first(east, north)
 }
 
-// Px and Py of every node become its U' and V', and row 13 is asked of them.
+// Row 13 of U' and V', where some node is refused: the first of them.
+pub(crate) fn refused_flow(n: usize, work: &[f64]) -> Answer
+    requires { ⌜ length (now work) ≡ workRuns * n ⌝ }
+    ensures { λ a. ⌜ ((g : Given) → now (work .entry) ≡ flowRoom g → n ≡ count g → a ≡ flowRows g) ⌝ }
+{
+    for i in 0..n {
+        let u = work[1 * n + i];
+        let v = work[2 * n + i];
+        let answer = flow_row(Flow { u, v }, i);
+        if answer.number != 0 {
+            return answer;
+        }
+    }
+    rows::accept()
+}
+
+// Px and Py of every node become its U' and V', and row 13 is asked of them, likewise.
 pub(crate) fn flows(
     work: &mut [f64],
     sums: &[u64],
@@ -167,7 +184,7 @@ pub(crate) fn flows(
     ensures { λ g a. ⌜ (a ≡ flowRows g) × (now (work .exit) ≡ flowRoom g) ⌝ }
 {
     let n = x.len();
-    let mut at = n;
+    let mut all = true;
     for i in 0..n {
         let z = work[0 * n + i];
         let px = work[1 * n + i];
@@ -175,13 +192,11 @@ pub(crate) fn flows(
         let v = flow_at(n, h, kind, p, state, w, f, sums, z, px, py, i);
         work[1 * n + i] = v.u;
         work[2 * n + i] = v.v;
-        at = rows::failed_first(n, at, i, flow_row(v, i).number == 0);
+        all = all & (flow_row(v, i).number == 0);
     }
-    if at < n {
-        let u = work[1 * n + at];
-        let v = work[2 * n + at];
-        flow_row(Flow { u, v }, at)
-    } else {
+    if all {
         rows::accept()
+    } else {
+        refused_flow(n, work)
     }
 }

@@ -5,6 +5,7 @@ use mathlib.Core.List.{List}
 use lib.Dec.{T}
 use lib.ListN.{length, getD}
 use lib.Ieee.{Float, nan, binary64, fits}
+use Rattle.bounds.specs.State.{stateRuns}
 use Rattle.surge.specs.declared.Clock.{Clock}
 
 -- a step of 4 bytes and two binary64 values
@@ -13,7 +14,7 @@ pub record StorableClock (k : Clock) : Type 0 where
   pub wx : T (fits binary64 (k .wx))
   pub wy : T (fits binary64 (k .wy))
 
--- four runs of n binary64 values
+-- the runs of a state, of n binary64 values each
 pub record StorableState (n : ℕ) (state : List Float) : Type 0 where
-  pub long : length state ≡ 4 * n
+  pub long : length state ≡ stateRuns * n
   pub values : (j : ℕ) → j < length state → T (fits binary64 (getD state j nan))

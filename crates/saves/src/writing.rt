@@ -9,6 +9,7 @@ ghost use Prim.Native.Nat.{_+_, _*_, _<_, _≤_};
 ghost use lib.ListN.{length, drop};
 ghost use Rattle.frames.specs.Frames.{text};
 ghost use Rattle.frames.specs.Building.{holding};
+ghost use Rattle.bounds.specs.State.{stateRuns};
 ghost use Rattle.saves.specs.Lines.{head, stateValues, nodeLine, end, saveLength};
 ghost use Rattle.saves.specs.Save.{lineOf, saveText};
 
@@ -22,7 +23,7 @@ fn head_line(n: usize, e: usize, clock: Clock) -> Line
 }
 
 fn node_line(i: usize, n: usize, state: &[f64]) -> Line
-    requires { ⌜ (i < n) × (length (now state) ≡ 4 * n) ⌝ }
+    requires { ⌜ (i < n) × (length (now state) ≡ stateRuns * n) ⌝ }
     ensures { λ r. ⌜ r ≡ holding (text (nodeLine i (stateValues n (now (state .entry)) i))) ⌝ }
 {
     let begun = Line::begin(2, i as u64 + 1);
@@ -41,7 +42,7 @@ fn end_line(n: usize) -> Line
 
 // Line j: head, nodes, end.
 fn line_of(j: usize, n: usize, e: usize, state: &[f64], clock: Clock) -> Line
-    requires { ⌜ (n ≤ 4096) × (length (now state) ≡ 4 * n) ⌝ }
+    requires { ⌜ (n ≤ 4096) × (length (now state) ≡ stateRuns * n) ⌝ }
     ensures { λ r. ⌜ r ≡ holding (text (lineOf n e (now (state .entry)) clock j)) ⌝ }
 {
     if j == 0 {
@@ -55,7 +56,7 @@ fn line_of(j: usize, n: usize, e: usize, state: &[f64], clock: Clock) -> Line
 }
 
 pub(crate) fn write(text: &mut [u8], n: usize, e: usize, state: &[f64], clock: Clock)
-    requires { ⌜ (n ≤ 4096) × (length (now state) ≡ 4 * n) × (saveLength n ≤ length (now text)) ⌝ }
+    requires { ⌜ (n ≤ 4096) × (length (now state) ≡ stateRuns * n) × (saveLength n ≤ length (now text)) ⌝ }
     ensures { λ _. ⌜ now (text .exit) ≡ saveText n e (now (state .entry)) clock ++ drop (saveLength n) (now (text .entry)) ⌝ }
 {
     let count = n + 2;

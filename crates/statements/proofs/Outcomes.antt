@@ -114,8 +114,6 @@ use Rattle.mesh.proofs.open_rows.Kinds as open-rows-kinds
 use Rattle.mesh.proofs.open_rows.Reads as open-rows-reads
 use Rattle.mesh.proofs.reading.corners_at.Kinds as corners-at-kinds
 use Rattle.mesh.proofs.reading.corners_at.Reads as corners-at-reads
-use Rattle.lists.proofs.rows.failed_first.Kinds as failed-first-kinds
-use Rattle.lists.proofs.rows.failed_first.Reads as failed-first-reads
 use Rattle.geometry.proofs.sides_of.Kinds as sides-of-kinds
 use Rattle.geometry.proofs.sides_of.Reads as sides-of-reads
 use Rattle.geometry.proofs.all_near.Kinds as all-near-kinds
@@ -237,9 +235,6 @@ open-rows-determined κs a x y v w p q = (same p q, refl)
 
 pub corners-at-determined : Determined corners-at-kinds.ps corners-at-kinds.r corners-at-reads.Post
 corners-at-determined κs a x y v w p q = (same p q, refl)
-
-pub failed-first-determined : Determined failed-first-kinds.ps failed-first-kinds.r failed-first-reads.Post
-failed-first-determined κs a x y v w p q = (same p q, refl)
 
 pub sides-of-determined : Determined sides-of-kinds.ps sides-of-kinds.r sides-of-reads.Post
 sides-of-determined κs a x y v w p q = (same p q, refl)

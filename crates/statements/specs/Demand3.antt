@@ -11,6 +11,7 @@ use Rattle.equations.specs.declared.Parameters.{Parameters}
 use Rattle.surge.specs.declared.Clock.{Clock}
 use Rattle.equations.specs.declared.Forcing.{Forcing}
 use Rattle.mesh.specs.Lent.{Mesh, N}
+use Rattle.bounds.specs.State.{stateRuns}
 use Rattle.surge.specs.Lent.{Run, run, coldState, coldClock}
 use Rattle.surge.specs.Open.{openOf}
 use Rattle.surge.specs.Step.{advance, stepOf}
@@ -87,7 +88,7 @@ abbrev pub OwnSavesLoad : Type 0
 OwnSavesLoad =
     (m : Mesh) (p : Parameters) (cs : List (Call (surge m p))) (text : List ℕ) (state : List Float) (k : Clock) →
     let r = history (surge m p) cs .held in
-    saved m p r text .accepted ≡ true → length state ≡ 4 * N m →
+    saved m p r text .accepted ≡ true → length state ≡ stateRuns * N m →
     loaded m p (run state k) (saved m p r text .text) ≡ record { accepted = true; held = r }
 
 -- Every run held can be saved. On a mesh and with parameters that opening accepts, after any sequence of calls (loads of any texts among them), a save that

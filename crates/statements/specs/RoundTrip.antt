@@ -9,6 +9,7 @@ use Rattle.lists.specs.Scan.{accepted}
 use Rattle.equations.specs.declared.Parameters.{Parameters}
 use Rattle.surge.specs.declared.Clock.{Clock}
 use Rattle.mesh.specs.Lent.{Mesh, N}
+use Rattle.bounds.specs.State.{stateRuns}
 use Rattle.surge.specs.Lent.{After, after}
 use Rattle.saves.specs.Lines.{saveLength}
 use Rattle.saves.specs.Save.{SaveOut, saveText, saveOf, wrote}
@@ -28,7 +29,7 @@ gives state k = after (record { answer = accepted; clock = k }) state
 abbrev pub SavedIsLoaded : Type 0
 SavedIsLoaded =
     (m : Mesh) (p : Parameters) (state : List Float) (k : Clock) (room : List ℕ) (old : List Float) (other : Clock) →
-    StorableState (N m) state → StorableClock k → length old ≡ 4 * N m → Accepts (saveOf m p state k room .answer) →
+    StorableState (N m) state → StorableClock k → length old ≡ stateRuns * N m → Accepts (saveOf m p state k room .answer) →
     loadOf m p (written (saveOf m p state k room)) old other ≡ gives state k
 
 -- Two runs on meshes of N nodes and E triangles that have the same text are the same run: a save leaves nothing out.
@@ -42,7 +43,7 @@ SameTextSameRun =
 abbrev pub LoadedIsSaved : Type 0
 LoadedIsSaved =
     (m : Mesh) (p : Parameters) (t : List ℕ) (state : List Float) (k : Clock) (room : List ℕ) (old : List Float) (other : Clock) →
-    Accepts (loadOf m p t state k .reply .answer) → saveLength (N m) ≤ length room → length old ≡ 4 * N m →
+    Accepts (loadOf m p t state k .reply .answer) → saveLength (N m) ≤ length room → length old ≡ stateRuns * N m →
     let run = loadOf m p t state k in
     let save = saveOf m p (run .state) (run .reply .clock) room in
     (save .answer ≡ wrote (saveLength (N m))) × (loadOf m p (written save) old other ≡ gives (run .state) (run .reply .clock))

@@ -3,7 +3,7 @@ use mathlib.Core.Path.{_≡_, sym, ap, _∙_}
 use native.Mathlib.Omega.{arith}
 use borrow.Author.Needs.{needs}
 use lib.ListN.{length}
-use Rattle.lists.specs.Table.{upTo}
+use Rattle.lists.specs.Private.{upTo}
 use Rattle.lists.proofs.TableLaws.{up-none, up-more, up-length, up-all}
 use Rattle.lists.proofs.slices.clear_whole.Statement.{statement}
 use Rattle.lists.proofs.slices.clear_whole.Tie as tie

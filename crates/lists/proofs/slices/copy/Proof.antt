@@ -5,7 +5,7 @@ use native.Mathlib.Omega.{arith}
 use borrow.Author.Needs.{needs}
 use lib.ListN.{length, getD}
 use lib.Ieee.{nan}
-use Rattle.lists.specs.Table.{upTo}
+use Rattle.lists.specs.Private.{upTo}
 use Rattle.lists.proofs.TableLaws.{up-none, up-more, up-length, up-copied}
 use Rattle.lists.proofs.slices.copy.Statement.{statement}
 use Rattle.lists.proofs.slices.copy.Tie as tie

@@ -1,5 +1,5 @@
 use Prim.Native.Nat.{_+_, _%_}
-use Rattle.geometry.specs.Geometry.{nodesOf}
+use Rattle.geometry.specs.Private.{nodesOf}
 use Rattle.mesh.proofs.RowLaws.{one-of-legs, nth-below}
 use borrow.Author.Needs.{needs}
 use Rattle.mesh.proofs.triangles.leg_seen.Statement.{statement}

@@ -8,7 +8,7 @@ use borrow.Author.Needs.{needs}
 use Rattle.lists.specs.declared.rows.Answer.{Answer}
 use Rattle.lists.specs.Scan.{refused, some}
 use Rattle.lists.proofs.ScanLaws.{scan-none, scan-hit, some-none}
-use Rattle.geometry.specs.Geometry.{nodesOf}
+use Rattle.geometry.specs.Private.{nodesOf}
 use Rattle.mesh.specs.Lent.{corners}
 use Rattle.mesh.specs.Rows.{legSeen, row6}
 use Rattle.mesh.proofs.SideLaws.{corners-read}

@@ -7,7 +7,8 @@ use lib.ListN.{length}
 use Rattle.lists.specs.Gather.{Three}
 use Rattle.lists.specs.Scan.{row}
 use Rattle.mesh.specs.Lent.{corners}
-use Rattle.geometry.specs.Geometry.{nodesOf, allNear, nearD}
+use Rattle.geometry.specs.Geometry.{allNear, nearD}
+use Rattle.geometry.specs.Private.{nodesOf}
 use Rattle.mesh.specs.Geometry.{sides}
 use Rattle.mesh.specs.Rows.{allBelow}
 use Rattle.geometry.proofs.SizeLaws.{kept}

@@ -1,5 +1,5 @@
 use mathlib.Core.Path.{refl}
-use Rattle.lists.specs.Gather.{addedAt}
+use Rattle.lists.specs.Private.{addedAt}
 use borrow.Author.Needs.{needs}
 use Rattle.passes.proofs.sums.add_area.Statement.{statement}
 use Rattle.passes.proofs.sums.add_area.Tie as tie

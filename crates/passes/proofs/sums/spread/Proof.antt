@@ -1,6 +1,6 @@
 use mathlib.Core.Path.{_∙_}
 use borrow.Author.Needs.{needs}
-use Rattle.lists.specs.Gather.{spread}
+use Rattle.lists.specs.Private.{spread}
 use Rattle.passes.proofs.sums.spread.Statement.{statement}
 use Rattle.passes.proofs.sums.spread.Tie as tie
 

@@ -2,7 +2,8 @@ use Prim.Native.Nat.{ℕ, _+_, _*_, _^_, _<_}
 use mathlib.Core.Path.{_≡_, ap, _∙_}
 use native.Mathlib.Omega.{arith}
 use lib.ListN.{length, getD}
-use Rattle.lists.specs.Gather.{whole, spread}
+use Rattle.lists.specs.Gather.{whole}
+use Rattle.lists.specs.Private.{spread}
 use Rattle.lists.proofs.GatherLaws.{length-added, added-le}
 use borrow.Author.Needs.{needs}
 use Rattle.passes.proofs.sums.spread_area.Statement.{statement}

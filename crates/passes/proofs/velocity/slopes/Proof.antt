@@ -4,12 +4,13 @@ use native.Mathlib.Omega.{arith}
 use lib.Dec.{lit<}
 use lib.ListN.{length}
 use lib.Ieee.{Float, nan}
-use Rattle.lists.specs.Gather.{Three, Below, past, gathered, spread}
+use Rattle.lists.specs.Gather.{Three, gathered}
+use Rattle.lists.specs.Private.{Below, past, spread}
 use Rattle.lists.proofs.RunLaws.{runs-length}
 use Rattle.equations.specs.declared.Parameters.{Parameters}
 use Rattle.equations.specs.declared.Wind.{Wind}
 use Rattle.equations.specs.declared.Forcing.{Forcing}
-use Rattle.geometry.specs.Geometry.{nodesOf}
+use Rattle.geometry.specs.Private.{nodesOf}
 use Rattle.mesh.specs.Lent.{mesh, E}
 use Rattle.mesh.proofs.SideLaws.{corners-read}
 use Rattle.passes.specs.Equations.{Given, given, cornersOf, floating}

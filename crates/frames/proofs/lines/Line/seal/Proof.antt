@@ -5,7 +5,7 @@ use borrow.Author.Needs.{needs}
 use lib.ListN.{length}
 use Rattle.frames.specs.Bytes.{digits}
 use Rattle.frames.specs.Building.{longest, written, sealed}
-use Rattle.frames.specs.Reading.{tallied}
+use Rattle.frames.specs.Private.{tallied}
 use Rattle.frames.proofs.BuildLaws.{appended-full, sealed-room}
 use Rattle.frames.proofs.lines.Line.seal.Statement.{statement}
 use Rattle.frames.proofs.lines.Line.seal.Tie as tie
