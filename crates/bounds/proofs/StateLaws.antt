@@ -9,7 +9,7 @@ use lib.Ieee.{Float}
 use Rattle.lists.specs.declared.rows.Answer.{Answer}
 use Rattle.lists.specs.Scan.{accepted, _then_}
 use Rattle.lists.proofs.ScanLaws.{row-holds, row-passed, then-next, then-first, then-rest, scan-none, scan-clean}
-use Rattle.equations.specs.declared.Parameters.{Parameters}
+use Rattle.quantities.specs.declared.Parameters.{Parameters}
 use Rattle.limits.specs.Limits.{inBounds}
 use Rattle.mesh.specs.Lent.{Mesh, N}
 use Rattle.mesh.specs.Rows.{meshRows}

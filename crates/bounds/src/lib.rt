@@ -1,9 +1,9 @@
 // The state: the mesh's rows and row 10, in the document's order.
-use equations::Node;
-use equations::Parameters;
 use lists::rows;
 use lists::rows::Answer;
 use lists::slices;
+use quantities::Node;
+use quantities::Parameters;
 ghost use mathlib.Core.Path.{_≡_};
 ghost use Prim.Native.Nat.{_*_, _<_};
 ghost use lib.ListN.{length};

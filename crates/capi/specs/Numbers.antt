@@ -3,9 +3,9 @@
 use Prim.Native.Nat.{ℕ}
 use lib.Ieee.{Float}
 use Rattle.lists.specs.declared.rows.Answer.{Answer}
-use Rattle.equations.specs.declared.Parameters.{Parameters}
+use Rattle.quantities.specs.declared.Parameters.{Parameters}
 use Rattle.surge.specs.declared.Clock.{Clock}
-use Rattle.equations.specs.declared.Forcing.{Forcing}
+use Rattle.quantities.specs.declared.Forcing.{Forcing}
 use Rattle.surge.specs.declared.Reply.{Reply}
 use Rattle.forcings.specs.declared.Taken.{Taken}
 

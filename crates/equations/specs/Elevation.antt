@@ -1,13 +1,13 @@
 -- Document 01, "Elevation": the record of one triangle, what its corners receive, and z' of a node.
 use lib.Ieee.{Float, neg}
-use Rattle.equations.specs.Operations.{_⊕_, _⊖_, _⊗_, _⊘_}
-use Rattle.equations.specs.Constants.{g, one, two, three, six}
-use Rattle.equations.specs.declared.Parameters.{Parameters}
-use Rattle.equations.specs.declared.Wind.{Wind}
-use Rattle.equations.specs.declared.Node.{Node}
-use Rattle.equations.specs.declared.Sides.{Sides}
+use Rattle.quantities.specs.Operations.{_⊕_, _⊖_, _⊗_, _⊘_}
+use Rattle.quantities.specs.Constants.{g, one, two, three, six}
+use Rattle.quantities.specs.declared.Parameters.{Parameters}
+use Rattle.quantities.specs.declared.Wind.{Wind}
+use Rattle.quantities.specs.declared.Node.{Node}
+use Rattle.quantities.specs.declared.Sides.{Sides}
 use Rattle.equations.specs.declared.Means.{Means}
-use Rattle.equations.specs.declared.Shares.{Shares}
+use Rattle.quantities.specs.declared.Shares.{Shares}
 
 -- "For each triangle, zi* = z minus earlier z, Hi = hi+zi, qxi = Ui·Hi, qyi = Vi·Hi"
 module _ (i : Node) where

@@ -1,5 +1,2 @@
-pub mod Operations
-pub mod Constants
 pub mod Elevation
 pub mod Velocity
-pub mod Outcomes

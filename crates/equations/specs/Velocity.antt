@@ -1,10 +1,10 @@
 -- Document 01, "Velocity": the pair U', V' of one node. Its U and V are u and v here: antt keeps the word V for itself.
 use lib.Ieee.{Float}
-use Rattle.equations.specs.Operations.{_⊕_, _⊖_, _⊗_, _⊘_}
-use Rattle.equations.specs.Constants.{g, one, two}
-use Rattle.equations.specs.declared.Parameters.{Parameters}
-use Rattle.equations.specs.declared.Push.{Push}
-use Rattle.equations.specs.declared.Flow.{Flow}
+use Rattle.quantities.specs.Operations.{_⊕_, _⊖_, _⊗_, _⊘_}
+use Rattle.quantities.specs.Constants.{g, one, two}
+use Rattle.quantities.specs.declared.Parameters.{Parameters}
+use Rattle.quantities.specs.declared.Push.{Push}
+use Rattle.quantities.specs.declared.Flow.{Flow}
 
 module _ (run : Parameters) (node : Push) where
   open Parameters run using (dt, k as K, f)

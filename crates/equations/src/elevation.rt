@@ -1,11 +1,11 @@
 // Document 01, "Elevation": what a triangle gives to its corners, and what a node makes of it.
 use super::G;
 use super::Means;
-use super::Node;
-use super::Parameters;
-use super::Shares;
-use super::Sides;
-use super::Wind;
+use quantities::Node;
+use quantities::Parameters;
+use quantities::Shares;
+use quantities::Sides;
+use quantities::Wind;
 ghost use mathlib.Core.Path.{_≡_};
 ghost use Rattle.equations.specs.Elevation.{mean, slope, means, Jx, Jy, corner, shares, L, z′};
 

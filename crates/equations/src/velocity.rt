@@ -1,8 +1,8 @@
 // Document 01, "Velocity": the pair U', V' of one node.
-use super::Flow;
 use super::G;
-use super::Parameters;
-use super::Push;
+use quantities::Flow;
+use quantities::Parameters;
+use quantities::Push;
 ghost use mathlib.Core.Path.{_≡_};
 ghost use Rattle.equations.specs.Velocity.{flow};
 

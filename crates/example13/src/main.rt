@@ -1,8 +1,8 @@
 // Example 13 of document 01: two steps on mesh T from a cold start. Each number of the state after each step is written as its binary64
 // pattern, one a line, and last the clock's step number. The file `stdout` beside src/ holds what the independent second program gives.
-use equations::Forcing;
-use equations::Parameters;
 use libc::STDOUT_FILENO;
+use quantities::Forcing;
+use quantities::Parameters;
 
 fn print_state(state: &[f64]) {
     for i in 0..state.len() {

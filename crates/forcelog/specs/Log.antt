@@ -5,7 +5,7 @@ use mathlib.Core.List.{List}
 use lib.Dec.{eqb}
 use Rattle.lists.specs.declared.rows.Answer.{Answer}
 use Rattle.lists.specs.Table.{table, zeros}
-use Rattle.equations.specs.declared.Forcing.{Forcing}
+use Rattle.quantities.specs.declared.Forcing.{Forcing}
 use Rattle.surge.specs.Lent.{run, coldState, coldClock}
 use Rattle.surge.specs.Step.{StepOut, stepOf}
 use Rattle.passes.specs.Settle.{Rooms, lentRooms}

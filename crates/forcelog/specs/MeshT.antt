@@ -3,7 +3,7 @@ use mathlib.Core.List.{[], _∷_}
 use lib.IntN.{pos}
 use lib.ListN.{replicate}
 use Rattle.lists.specs.Numbers.{decimal}
-use Rattle.equations.specs.declared.Parameters.{Parameters}
+use Rattle.quantities.specs.declared.Parameters.{Parameters}
 use Rattle.mesh.specs.Lent.{Mesh, mesh}
 
 -- "mesh T: (0,0), (100,0), (0,100), triangle 0 1 2, h 8, kinds 0"

@@ -8,7 +8,7 @@ use Rattle.lists.specs.declared.rows.Answer.{Answer}
 use Rattle.lists.specs.Numbers.{plus0}
 use Rattle.frames.specs.Frames.{Layout, digitsOf, byteOf}
 use Rattle.frames.specs.Reading.{float, fault}
-use Rattle.equations.specs.declared.Forcing.{Forcing}
+use Rattle.quantities.specs.declared.Forcing.{Forcing}
 use Rattle.forcings.specs.declared.Taken.{Taken}
 
 -- "10 forcing, its own sequence from 0 to 65,535: elevation, Wx', Wy'. 56 digits."

@@ -1,7 +1,7 @@
 // Forcing lines.
-use equations::Forcing;
 use frames::reading;
 use lists::rows::Answer;
+use quantities::Forcing;
 ghost use mathlib.Core.Path.{_≡_};
 ghost use Rattle.forcings.specs.Forcings.{takenOf};
 

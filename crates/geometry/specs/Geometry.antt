@@ -7,7 +7,7 @@ use lib.Ieee.{binary64, ofInt}
 use Rattle.lists.specs.Gather.{Three}
 use Rattle.geometry.specs.declared.Places.{Places}
 use Rattle.geometry.specs.declared.WholeSides.{WholeSides}
-use Rattle.equations.specs.declared.Sides.{Sides}
+use Rattle.quantities.specs.declared.Sides.{Sides}
 
 -- the coordinates of three corners
 abbrev pub eastOf : Places → Three ℤ

@@ -1,5 +1,5 @@
 // Triangle geometry on single values, in whole numbers and as floats without loss. No slice is lent to any function here, and no public one asks anything.
-use equations::Sides;
+use quantities::Sides;
 ghost use mathlib.Core.Path.{_≡_};
 ghost use Prim.Native.Nat.{_≤_, _^_};
 ghost use lib.IntN.{natAbs, pos, _-ℤ_};

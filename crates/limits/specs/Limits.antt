@@ -5,13 +5,12 @@ use lib.Dec.{eqb, leb}
 use lib.Ieee.{Float, le}
 use Rattle.lists.specs.declared.rows.Answer.{Answer}
 use Rattle.lists.specs.Scan.{row, _then_}
-use Rattle.lists.specs.Numbers.{within, decimal, minus}
-use Rattle.equations.specs.declared.Parameters.{Parameters}
-use Rattle.equations.specs.declared.Node.{Node}
-use Rattle.equations.specs.declared.Wind.{Wind}
-use Rattle.equations.specs.Operations.{_⊕_}
-use Rattle.equations.specs.Constants.{tenth}
-use Rattle.equations.specs.Outcomes.{inSize}
+use Rattle.lists.specs.Numbers.{within, decimal, minus, inSize}
+use Rattle.quantities.specs.declared.Parameters.{Parameters}
+use Rattle.quantities.specs.declared.Node.{Node}
+use Rattle.quantities.specs.declared.Wind.{Wind}
+use Rattle.quantities.specs.Operations.{_⊕_}
+use Rattle.quantities.specs.Constants.{tenth}
 
 -- | 8 | h not 1..12,000, or kind above 2 | node |
 unfoldable pub isNode : Float → ℕ → Bool

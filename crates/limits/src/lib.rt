@@ -1,9 +1,9 @@
 // The limits of document 01 on single values: what rows 8 to 12 of the refusal table ask of a node, the parameters, a clock and a forcing.
-use equations::Node;
-use equations::Parameters;
-use equations::Wind;
 use lists::rows;
 use lists::rows::Answer;
+use quantities::Node;
+use quantities::Parameters;
+use quantities::Wind;
 ghost use mathlib.Core.Path.{_≡_};
 ghost use Rattle.limits.specs.Limits.{isNode, row9, inBounds, row11, row12Held, row12New};
 

@@ -17,3 +17,7 @@ decimal n d = round binary64 false n d
 
 unfoldable pub minus : ℕ → ℕ → Float
 minus n d = round binary64 true n d
+
+-- a size that is not "beyond" `most`
+abbrev pub inSize : ℕ → Float → Bool
+inSize most v = within (minus most 1) v (decimal most 1)

@@ -16,7 +16,7 @@ use Rattle.lists.specs.Private.{Below}
 use Rattle.lists.specs.Scan.{accepted, _then_}
 use Rattle.lists.specs.Numbers.{within, decimal}
 use Rattle.lists.proofs.ScanLaws.{row-passed, then-next, then-first, then-rest, scan-clean, both-left, both-right}
-use Rattle.equations.specs.declared.Parameters.{Parameters}
+use Rattle.quantities.specs.declared.Parameters.{Parameters}
 use Rattle.geometry.specs.Geometry.{D, allNear}
 use Rattle.geometry.proofs.GeometryLaws.{all-small}
 use Rattle.limits.specs.Limits.{isNode}

@@ -10,7 +10,7 @@ use lib.Ieee.{Float, nan}
 use Rattle.lists.specs.declared.rows.Answer.{Answer}
 use Rattle.lists.specs.Scan.{row, _then_, scan, some}
 use Rattle.lists.specs.Gather.{Three}
-use Rattle.equations.specs.declared.Parameters.{Parameters}
+use Rattle.quantities.specs.declared.Parameters.{Parameters}
 use Rattle.limits.specs.Limits.{isNode, row9}
 use Rattle.mesh.specs.Lent.{Mesh, N, E, corner, corners}
 use Rattle.mesh.specs.Geometry.{sides}

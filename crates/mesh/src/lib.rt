@@ -3,9 +3,9 @@ pub(crate) mod nodes;
 pub mod reading;
 pub(crate) mod triangles;
 
-use equations::Parameters;
 use lists::rows;
 use lists::rows::Answer;
+use quantities::Parameters;
 ghost use mathlib.Core.Path.{_≡_};
 ghost use Prim.Native.Nat.{ℕ, _<_, _≤_};
 ghost use lib.ListN.{length, getD};

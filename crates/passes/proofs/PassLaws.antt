@@ -17,11 +17,11 @@ use Rattle.lists.proofs.ScanLaws.{scan-same}
 use Rattle.lists.proofs.TableLaws.{length-table, getD-table}
 use Rattle.lists.proofs.RunLaws.{in-runs, run-read, run-same, run-turn, turned, turn-none, turn-here, turn-all}
 use Rattle.lists.proofs.GatherLaws.{gather-more, gather-run, gathered-le}
-use Rattle.equations.specs.declared.Node.{Node}
-use Rattle.equations.specs.declared.Flow.{Flow}
-use Rattle.equations.specs.declared.Sides.{Sides}
-use Rattle.equations.specs.declared.Shares.{Shares}
-use Rattle.equations.specs.Operations.{_⊕_}
+use Rattle.quantities.specs.declared.Node.{Node}
+use Rattle.quantities.specs.declared.Flow.{Flow}
+use Rattle.quantities.specs.declared.Sides.{Sides}
+use Rattle.quantities.specs.declared.Shares.{Shares}
+use Rattle.quantities.specs.Operations.{_⊕_}
 use Rattle.equations.specs.Elevation.{shares, slope}
 use Rattle.geometry.specs.declared.Places.{Places}
 use Rattle.geometry.specs.declared.Corners.{Corners}

@@ -9,15 +9,15 @@ use lib.Ieee.{Float, binary64, ofInt}
 use Rattle.lists.specs.Numbers.{plus0}
 use Rattle.lists.specs.Runs.{runsOf}
 use Rattle.lists.specs.Gather.{Three, alike, Adding, gathered}
-use Rattle.equations.specs.declared.Parameters.{Parameters}
-use Rattle.equations.specs.declared.Wind.{Wind}
-use Rattle.equations.specs.declared.Forcing.{Forcing}
-use Rattle.equations.specs.declared.Node.{Node}
-use Rattle.equations.specs.declared.Sides.{Sides}
-use Rattle.equations.specs.declared.Shares.{Shares}
-use Rattle.equations.specs.declared.Push.{Push}
-use Rattle.equations.specs.declared.Flow.{Flow}
-use Rattle.equations.specs.Operations.{_⊕_}
+use Rattle.quantities.specs.declared.Parameters.{Parameters}
+use Rattle.quantities.specs.declared.Wind.{Wind}
+use Rattle.quantities.specs.declared.Forcing.{Forcing}
+use Rattle.quantities.specs.declared.Node.{Node}
+use Rattle.quantities.specs.declared.Sides.{Sides}
+use Rattle.quantities.specs.declared.Shares.{Shares}
+use Rattle.quantities.specs.declared.Push.{Push}
+use Rattle.quantities.specs.declared.Flow.{Flow}
+use Rattle.quantities.specs.Operations.{_⊕_}
 use Rattle.equations.specs.Elevation.{shares, slope, z*, L, z′}
 use Rattle.equations.specs.Velocity.{flow}
 use Rattle.geometry.specs.Geometry.{floats}

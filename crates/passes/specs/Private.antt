@@ -7,8 +7,8 @@ use lib.Ieee.{Float}
 use Rattle.lists.specs.Numbers.{plus0}
 use Rattle.lists.specs.Runs.{inRun, runsOf}
 use Rattle.lists.specs.Gather.{Three}
-use Rattle.equations.specs.declared.Sides.{Sides}
-use Rattle.equations.specs.Operations.{_⊕_}
+use Rattle.quantities.specs.declared.Sides.{Sides}
+use Rattle.quantities.specs.Operations.{_⊕_}
 use Rattle.equations.specs.Elevation.{slope}
 use Rattle.mesh.specs.Private.{Shaped}
 use Rattle.bounds.specs.State.{stateRuns}

@@ -3,8 +3,8 @@ use Prim.Native.Nat.{ℕ}
 use lib.Ieee.{Float}
 use Rattle.lists.specs.declared.rows.Answer.{Answer}
 use Rattle.lists.specs.Scan.{_then_, scan}
-use Rattle.equations.specs.declared.Flow.{Flow}
-use Rattle.equations.specs.Outcomes.{ofRise, ofEast, ofNorth, answerOf}
+use Rattle.quantities.specs.declared.Flow.{Flow}
+use Rattle.outcomes.specs.Outcomes.{ofRise, ofEast, ofNorth, answerOf}
 use Rattle.passes.specs.Equations.{Given, count, node, rise, flowAt}
 
 -- | 13 | z' beyond 30, H' below 0.1, U' or V' beyond 20 | node |

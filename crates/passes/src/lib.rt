@@ -6,12 +6,12 @@ pub(crate) mod sums;
 pub(crate) mod velocity;
 
 use bounds::STATE_RUNS;
-use equations::Forcing;
-use equations::Parameters;
-use equations::Wind;
 use lists::rows;
 use lists::rows::Answer;
 use lists::slices;
+use quantities::Forcing;
+use quantities::Parameters;
+use quantities::Wind;
 ghost use mathlib.Core.Path.{_≡_};
 ghost use mathlib.Core.Bool.{cond};
 ghost use mathlib.Core.List.{[], _∷_};

@@ -1,5 +1,5 @@
 // What a node has in the state.
-use equations::Node;
+use quantities::Node;
 ghost use mathlib.Core.Path.{_≡_};
 ghost use Prim.Native.Nat.{_*_, _<_};
 ghost use lib.ListN.{length};

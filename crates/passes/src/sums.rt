@@ -1,6 +1,6 @@
 // Sums by node: a triangle's values are added at its three corners.
-use equations::Shares;
 use geometry::Corners;
+use quantities::Shares;
 ghost use mathlib.Core.Path.{_≡_};
 ghost use Prim.Native.Nat.{ℕ, _+_, _*_, _^_, _<_};
 ghost use lib.ListN.{length, getD};

@@ -8,7 +8,7 @@ use lib.Ieee.{Float, nan}
 use Rattle.lists.specs.Table.{table}
 use Rattle.lists.specs.Runs.{inRun, runsOf}
 use Rattle.lists.proofs.RunLaws.{as-runs, run-same, run-turn, turned, turn-none, turn-all}
-use Rattle.equations.specs.declared.Node.{Node}
+use Rattle.quantities.specs.declared.Node.{Node}
 use Rattle.bounds.specs.State.{stateRuns, nodeOf}
 use Rattle.saves.specs.Load.{loadedNode, loadedState}
 

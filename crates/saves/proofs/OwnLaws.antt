@@ -12,7 +12,7 @@ use lib.Ieee.{Float}
 use Rattle.lists.specs.declared.rows.Answer.{Answer}
 use Rattle.lists.specs.Scan.{accepted}
 use Rattle.lists.proofs.ScanLaws.{row-holds, then-first, then-rest, scan-none, same-number, goes}
-use Rattle.equations.specs.declared.Parameters.{Parameters}
+use Rattle.quantities.specs.declared.Parameters.{Parameters}
 use Rattle.surge.specs.declared.Clock.{Clock}
 use Rattle.mesh.specs.Lent.{Mesh, N, E}
 use Rattle.surge.specs.Lent.{After, after, windOf}

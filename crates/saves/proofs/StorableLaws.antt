@@ -14,10 +14,10 @@ use Rattle.lists.specs.Table.{table}
 use Rattle.lists.specs.Runs.{runsOf}
 use Rattle.lists.specs.Numbers.{plus0}
 use Rattle.lists.proofs.TableLaws.{length-table}
-use Rattle.equations.specs.declared.Parameters.{Parameters}
-use Rattle.equations.specs.declared.Forcing.{Forcing}
-use Rattle.equations.specs.declared.Push.{Push}
-use Rattle.equations.specs.declared.Flow.{Flow}
+use Rattle.quantities.specs.declared.Parameters.{Parameters}
+use Rattle.quantities.specs.declared.Forcing.{Forcing}
+use Rattle.quantities.specs.declared.Push.{Push}
+use Rattle.quantities.specs.declared.Flow.{Flow}
 use Rattle.equations.specs.Elevation.{z′}
 use Rattle.equations.specs.Velocity.{flow, U′ as u′, V′ as v′}
 use Rattle.frames.proofs.BackLaws.{value-small}

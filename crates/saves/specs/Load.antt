@@ -9,8 +9,8 @@ use lib.Ieee.{Float, nan}
 use Rattle.lists.specs.declared.rows.Answer.{Answer}
 use Rattle.lists.specs.Runs.{runsOf}
 use Rattle.lists.specs.Scan.{row, _then_, scan}
-use Rattle.equations.specs.declared.Parameters.{Parameters}
-use Rattle.equations.specs.declared.Node.{Node}
+use Rattle.quantities.specs.declared.Parameters.{Parameters}
+use Rattle.quantities.specs.declared.Node.{Node}
 use Rattle.frames.specs.Frames.{byteOf}
 use Rattle.frames.specs.Reading.{value, float, fault}
 use Rattle.surge.specs.declared.Clock.{Clock}

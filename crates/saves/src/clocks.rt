@@ -1,6 +1,6 @@
 // What a save and a load ask of a clock.
-use equations::Wind;
 use lists::rows::Answer;
+use quantities::Wind;
 use surge::Clock;
 ghost use mathlib.Core.Path.{_≡_};
 ghost use Rattle.limits.specs.Limits.{row12Held};

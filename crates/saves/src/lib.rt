@@ -4,10 +4,10 @@ pub(crate) mod loading;
 pub(crate) mod writing;
 
 use bounds::STATE_RUNS;
-use equations::Parameters;
 use lists::rows;
 use lists::rows::Answer;
 use lists::slices;
+use quantities::Parameters;
 use surge::Clock;
 use surge::Reply;
 ghost use mathlib.Core.Path.{_≡_};

@@ -1,10 +1,10 @@
 // The lines of a save, read back: the rows of a load, the clock and the state that the lines hold.
 use crate::clocks;
-use equations::Node;
 use frames::patterns;
 use frames::reading;
 use lists::rows;
 use lists::rows::Answer;
+use quantities::Node;
 use surge::Clock;
 ghost use mathlib.Core.Path.{_≡_};
 ghost use Prim.Native.Nat.{_+_, _*_, _<_, _≤_};

@@ -7,7 +7,7 @@ use Rattle.lists.specs.Numbers.{within, decimal, minus}
 use Rattle.lists.specs.Gather.{joined, gathered}
 use Rattle.equations.specs.Elevation.{z*, H as Hi, qx, qy, mean, slope, means, Jx, Jy, corner, shares, L, z′}
 use Rattle.equations.specs.Velocity.{H, H′, r, p, m, q, gx, gy, wx, wy, Rx, Ry, n, U′, V′, flow}
-use Rattle.equations.specs.Outcomes.{ofRise, speed}
+use Rattle.outcomes.specs.Outcomes.{ofRise, speed}
 use Rattle.frames.specs.Bytes.{digit, digits, byte, bytes, worth, allDigits, field, number, sum, check}
 use Rattle.frames.specs.Frames.{text, fieldBytes, checked}
 use Rattle.frames.specs.Reading.{value, isFramed, row20, row21, row22, fault}

@@ -5,11 +5,11 @@ use mathlib.Core.List.{List}
 use borrow.Author.Tests.{eq-eqb, ne-eqb}
 use lib.Ieee.{Float}
 use Rattle.lists.proofs.ScanLaws.{then-stop, then-next}
-use Rattle.equations.specs.declared.Parameters.{Parameters}
+use Rattle.quantities.specs.declared.Parameters.{Parameters}
 use Rattle.surge.specs.declared.Clock.{Clock}
 use Rattle.mesh.specs.Lent.{Mesh}
 use Rattle.surge.specs.Open.{openOf}
-use Rattle.equations.specs.declared.Forcing.{Forcing}
+use Rattle.quantities.specs.declared.Forcing.{Forcing}
 use Rattle.surge.specs.Lent.{Run}
 use Rattle.surge.specs.Step.{givenOf, refusedBefore, refusedBy13, wentOn, stepOf}
 use Rattle.passes.specs.Settle.{Rooms}

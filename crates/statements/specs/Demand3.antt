@@ -7,9 +7,9 @@ use lib.Dec.{T, eqb}
 use lib.ListN.{length, take}
 use lib.Ieee.{Float, binary64, fits}
 use Rattle.lists.specs.declared.rows.Answer.{Answer}
-use Rattle.equations.specs.declared.Parameters.{Parameters}
+use Rattle.quantities.specs.declared.Parameters.{Parameters}
 use Rattle.surge.specs.declared.Clock.{Clock}
-use Rattle.equations.specs.declared.Forcing.{Forcing}
+use Rattle.quantities.specs.declared.Forcing.{Forcing}
 use Rattle.mesh.specs.Lent.{Mesh, N}
 use Rattle.bounds.specs.State.{stateRuns}
 use Rattle.surge.specs.Lent.{Run, run, coldState, coldClock}

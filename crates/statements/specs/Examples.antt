@@ -8,7 +8,7 @@ use Rattle.lists.specs.declared.rows.Answer.{Answer}
 use Rattle.lists.specs.Table.{table, zeros}
 use Rattle.lists.specs.Numbers.{plus0, decimal}
 use Rattle.lists.specs.Scan.{accepted, refused}
-use Rattle.equations.specs.declared.Parameters.{Parameters}
+use Rattle.quantities.specs.declared.Parameters.{Parameters}
 use Rattle.geometry.specs.declared.WholeSides.{WholeSides}
 use Rattle.frames.specs.Bytes.{bytes, sum}
 use Rattle.frames.specs.Frames.{text}

@@ -14,14 +14,13 @@ use lib.Ieee.Positive.{positive, le→cross, between}
 use Rattle.lists.specs.declared.rows.Answer.{Answer}
 use Rattle.lists.specs.Runs.{inRun}
 use Rattle.lists.specs.Scan.{accepted, row}
-use Rattle.lists.specs.Numbers.{plus0, within, decimal, minus}
+use Rattle.lists.specs.Numbers.{plus0, within, decimal, minus, inSize}
 use Rattle.lists.proofs.ScanLaws.{both-left, both-right}
 use Rattle.lists.proofs.TableLaws.{length-table, getD-table}
 use Rattle.lists.proofs.RunLaws.{in-runs}
-use Rattle.equations.specs.declared.Parameters.{Parameters}
-use Rattle.equations.specs.Operations.{_⊕_}
-use Rattle.equations.specs.Constants.{tenth}
-use Rattle.equations.specs.Outcomes.{inSize}
+use Rattle.quantities.specs.declared.Parameters.{Parameters}
+use Rattle.quantities.specs.Operations.{_⊕_}
+use Rattle.quantities.specs.Constants.{tenth}
 use Rattle.limits.specs.Limits.{inBounds, row12Held}
 use Rattle.mesh.specs.Lent.{Mesh, N}
 use Rattle.mesh.specs.Rows.{meshRows, openRows}

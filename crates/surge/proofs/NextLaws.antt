@@ -7,19 +7,20 @@ use native.Mathlib.Omega.{arith}
 use lib.Dec.{lit<}
 use lib.ListN.{getD}
 use lib.Ieee.{Float, nan, le}
+use Rattle.lists.specs.Numbers.{inSize}
 use Rattle.lists.specs.declared.rows.Answer.{Answer}
 use Rattle.lists.specs.Runs.{runsOf}
 use Rattle.lists.specs.Scan.{accepted}
 use Rattle.lists.proofs.ScanLaws.{row-holds, row-passed, then-first, then-rest, scan-clean, both-left, both-right}
 use Rattle.lists.proofs.RunLaws.{runs-length, run-read}
-use Rattle.equations.specs.declared.Parameters.{Parameters}
-use Rattle.equations.specs.declared.Forcing.{Forcing}
-use Rattle.equations.specs.declared.Node.{Node}
-use Rattle.equations.specs.declared.Outcome.{Outcome}
-use Rattle.equations.specs.declared.Outcome.the-variants.{Accepted as Fine, Elevation, Column}
-use Rattle.equations.specs.Operations.{_⊕_}
-use Rattle.equations.specs.Constants.{tenth}
-use Rattle.equations.specs.Outcomes.{inSize, ofRise, speed, answerOf}
+use Rattle.quantities.specs.declared.Parameters.{Parameters}
+use Rattle.quantities.specs.declared.Forcing.{Forcing}
+use Rattle.quantities.specs.declared.Node.{Node}
+use Rattle.outcomes.specs.declared.Outcome.{Outcome}
+use Rattle.outcomes.specs.declared.Outcome.the-variants.{Accepted as Fine, Elevation, Column}
+use Rattle.quantities.specs.Operations.{_⊕_}
+use Rattle.quantities.specs.Constants.{tenth}
+use Rattle.outcomes.specs.Outcomes.{ofRise, speed, answerOf}
 use Rattle.limits.specs.Limits.{inBounds, row12Held, row12New}
 use Rattle.mesh.specs.Lent.{Mesh, N}
 use Rattle.mesh.specs.Rows.{meshRows}

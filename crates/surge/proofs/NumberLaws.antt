@@ -7,11 +7,11 @@ use lib.Dec.{T, eqb}
 use Rattle.lists.specs.declared.rows.Answer.{Answer}
 use Rattle.lists.specs.Scan.{row, _then_, scan}
 use Rattle.lists.proofs.ScanLaws.{then-stop, then-next}
-use Rattle.equations.specs.declared.Parameters.{Parameters}
-use Rattle.equations.specs.declared.Forcing.{Forcing}
-use Rattle.equations.specs.declared.Outcome.{Outcome}
-use Rattle.equations.specs.declared.Outcome.the-variants.{Accepted, Elevation, Column, East, North}
-use Rattle.equations.specs.Outcomes.{ofRise, ofEast, ofNorth, answerOf}
+use Rattle.quantities.specs.declared.Parameters.{Parameters}
+use Rattle.quantities.specs.declared.Forcing.{Forcing}
+use Rattle.outcomes.specs.declared.Outcome.{Outcome}
+use Rattle.outcomes.specs.declared.Outcome.the-variants.{Accepted, Elevation, Column, East, North}
+use Rattle.outcomes.specs.Outcomes.{ofRise, ofEast, ofNorth, answerOf}
 use Rattle.limits.specs.Limits.{row9, row11, row12Held, row12New}
 use Rattle.mesh.specs.Lent.{Mesh}
 use Rattle.mesh.specs.Rows.{row1, row2, row3, row4, row5, triangleRows, row7, row8, shapeRows, nodeRows, meshRows}

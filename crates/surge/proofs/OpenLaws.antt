@@ -10,7 +10,7 @@ use lib.Ieee.{Float}
 use Rattle.lists.specs.declared.rows.Answer.{Answer}
 use Rattle.lists.specs.Table.{zeros}
 use Rattle.lists.proofs.ScanLaws.{same-number}
-use Rattle.equations.specs.declared.Parameters.{Parameters}
+use Rattle.quantities.specs.declared.Parameters.{Parameters}
 use Rattle.mesh.specs.Lent.{Mesh, N}
 use Rattle.mesh.proofs.ShapedLaws.{shaped-asked, open-parts}
 use Rattle.bounds.specs.State.{stateRuns}

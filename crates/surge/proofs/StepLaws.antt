@@ -5,8 +5,8 @@ use borrow.Author.Tests.{eqb-true, eqb-false, not-true}
 use lib.Dec.{eqb}
 use Rattle.lists.specs.declared.rows.Answer.{Answer}
 use Rattle.lists.proofs.ScanLaws.{row-passed, then-first, then-rest}
-use Rattle.equations.specs.declared.Parameters.{Parameters}
-use Rattle.equations.specs.declared.Forcing.{Forcing}
+use Rattle.quantities.specs.declared.Parameters.{Parameters}
+use Rattle.quantities.specs.declared.Forcing.{Forcing}
 use Rattle.limits.specs.Limits.{row11}
 use Rattle.mesh.specs.Lent.{Mesh}
 use Rattle.passes.specs.Row13.{row13}

@@ -4,8 +4,8 @@ use mathlib.Core.List.{List}
 use lib.Ieee.{Float}
 use Rattle.lists.specs.Numbers.{plus0}
 use Rattle.lists.specs.Table.{zeros}
-use Rattle.equations.specs.declared.Forcing.{Forcing}
-use Rattle.equations.specs.declared.Wind.{Wind}
+use Rattle.quantities.specs.declared.Forcing.{Forcing}
+use Rattle.quantities.specs.declared.Wind.{Wind}
 use Rattle.bounds.specs.State.{stateRuns}
 use Rattle.surge.specs.declared.Clock.{Clock}
 use Rattle.surge.specs.declared.Reply.{Reply}

@@ -8,7 +8,7 @@ use Rattle.lists.specs.Table.{table}
 use Rattle.lists.specs.Gather.{gathered}
 use Rattle.lists.proofs.TableLaws.{length-table}
 use Rattle.lists.proofs.RunLaws.{runs-length}
-use Rattle.equations.specs.declared.Forcing.{Forcing}
+use Rattle.quantities.specs.declared.Forcing.{Forcing}
 use Rattle.geometry.specs.Private.{nodesOf}
 use Rattle.mesh.specs.Lent.{mesh, E}
 use Rattle.mesh.proofs.SideLaws.{corners-read}

@@ -10,7 +10,7 @@ use Rattle.lists.specs.Scan.{scan}
 use Rattle.lists.proofs.ScanLaws.{all-none, all-more, all-accept}
 use Rattle.lists.proofs.TableLaws.{length-table}
 use Rattle.lists.proofs.RunLaws.{runs-length}
-use Rattle.equations.specs.declared.Wind.{Wind}
+use Rattle.quantities.specs.declared.Wind.{Wind}
 use Rattle.mesh.specs.Lent.{mesh}
 use Rattle.passes.specs.Equations.{Given, given, count, node, S, rise}
 use Rattle.passes.specs.Row13.{riseRow}

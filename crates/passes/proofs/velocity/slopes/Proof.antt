@@ -7,9 +7,9 @@ use lib.Ieee.{Float, nan}
 use Rattle.lists.specs.Gather.{Three, gathered}
 use Rattle.lists.specs.Private.{Below, past, spread}
 use Rattle.lists.proofs.RunLaws.{runs-length}
-use Rattle.equations.specs.declared.Parameters.{Parameters}
-use Rattle.equations.specs.declared.Wind.{Wind}
-use Rattle.equations.specs.declared.Forcing.{Forcing}
+use Rattle.quantities.specs.declared.Parameters.{Parameters}
+use Rattle.quantities.specs.declared.Wind.{Wind}
+use Rattle.quantities.specs.declared.Forcing.{Forcing}
 use Rattle.geometry.specs.Private.{nodesOf}
 use Rattle.mesh.specs.Lent.{mesh, E}
 use Rattle.mesh.proofs.SideLaws.{corners-read}

@@ -1,8 +1,16 @@
-// Document 01, row 13 of the refusal table: what becomes of a node, and the answer for it.
-use super::Outcome;
+// Row 13 of the refusal table on single values: what becomes of a node, and the answer for it.
 use lists::rows;
 ghost use mathlib.Core.Path.{_≡_};
-ghost use Rattle.equations.specs.Outcomes.{ofRise, speed, ofEast, ofNorth, answerOf};
+ghost use Rattle.outcomes.specs.Outcomes.{ofRise, speed, ofEast, ofNorth, answerOf};
+
+// What becomes of a node: the value that is accepted, or the quantity that left its range: z', H', U' or V'.
+pub enum Outcome {
+    Accepted(f64),
+    Elevation(f64),
+    Column(f64),
+    East(f64),
+    North(f64),
+}
 
 // z' in size, then H'.
 pub fn of_rise(h: f64, z: f64) -> Outcome

@@ -1,6 +1,6 @@
 use borrow.Author.Needs.{needs}
-use Rattle.equations.proofs.outcomes.answer.Statement.{statement}
-use Rattle.equations.proofs.outcomes.answer.Tie as tie
+use Rattle.outcomes.proofs.answer.Statement.{statement}
+use Rattle.outcomes.proofs.answer.Tie as tie
 
 pub answer-spec : {M : Type 1} → statement M
 answer-spec =

@@ -1,18 +1,14 @@
 -- Document 01, row 13 of the refusal table: what becomes of a node, and the answer for it.
 use Prim.Native.Nat.{ℕ}
-use mathlib.Core.Bool.{Bool, cond}
+use mathlib.Core.Bool.{cond}
 use lib.Ieee.{Float, le}
 use Rattle.lists.specs.Scan.{accepted}
-use Rattle.lists.specs.Numbers.{within, decimal, minus}
+use Rattle.lists.specs.Numbers.{inSize}
 use Rattle.lists.specs.declared.rows.Answer.{Answer}
-use Rattle.equations.specs.Operations.{_⊕_}
-use Rattle.equations.specs.Constants.{tenth}
-use Rattle.equations.specs.declared.Outcome.{Outcome}
-use Rattle.equations.specs.declared.Outcome.the-variants.{Accepted, Elevation, Column, East, North}
-
--- a size that is not "beyond" `most`
-abbrev pub inSize : ℕ → Float → Bool
-inSize most v = within (minus most 1) v (decimal most 1)
+use Rattle.quantities.specs.Operations.{_⊕_}
+use Rattle.quantities.specs.Constants.{tenth}
+use Rattle.outcomes.specs.declared.Outcome.{Outcome}
+use Rattle.outcomes.specs.declared.Outcome.the-variants.{Accepted, Elevation, Column, East, North}
 
 -- "z' beyond 30, H' below 0.1"; "node by node, size, then H'"
 unfoldable pub ofRise : Float → Float → Outcome

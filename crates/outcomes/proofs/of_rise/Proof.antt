@@ -1,8 +1,8 @@
 use lib.Ieee.{round, neg, ofBits}
 use Rattle.lists.specs.Numbers.{decimal, minus}
-use Rattle.equations.specs.Outcomes.{ofRise}
-use Rattle.equations.proofs.outcomes.of_rise.Statement.{statement}
-use Rattle.equations.proofs.outcomes.of_rise.Tie as tie
+use Rattle.outcomes.specs.Outcomes.{ofRise}
+use Rattle.outcomes.proofs.of_rise.Statement.{statement}
+use Rattle.outcomes.proofs.of_rise.Tie as tie
 
 returns : tie.Need-returns
 unfolding ofRise decimal minus round neg ofBits

@@ -1,8 +1,8 @@
 use lib.Ieee.{round, neg, ofBits}
 use Rattle.lists.specs.Numbers.{decimal, minus}
-use Rattle.equations.specs.Outcomes.{speed}
-use Rattle.equations.proofs.outcomes.speed.Statement.{statement}
-use Rattle.equations.proofs.outcomes.speed.Tie as tie
+use Rattle.outcomes.specs.Outcomes.{speed}
+use Rattle.outcomes.proofs.speed.Statement.{statement}
+use Rattle.outcomes.proofs.speed.Tie as tie
 
 returns : tie.Need-returns
 unfolding speed decimal minus round neg ofBits
