@@ -5,6 +5,8 @@ use quantities::Node;
 use quantities::Parameters;
 use quantities::Wind;
 ghost use mathlib.Core.Path.{_≡_};
+ghost use Rattle.lists.specs.Numbers.{within};
+ghost use Rattle.lists.specs.Scan.{row};
 ghost use Rattle.limits.specs.Limits.{isNode, row9, inBounds, row11, row12Held, row12New};
 
 // Row 8 of one node: its depth and its kind.
@@ -14,14 +16,21 @@ pub fn is_node(h: f64, kind: u8) -> bool
     rows::in_range(1.0, h, 12000.0) & (kind <= 2)
 }
 
+// A row whose test is a range.
+fn limit(low: f64, v: f64, high: f64, number: u32, place: usize) -> Answer
+    ensures { λ r. ⌜ r ≡ row (within low v high) number place ⌝ }
+{
+    rows::tested(rows::in_range(low, v, high), number, place)
+}
+
 // Row 9: the first parameter that is out of its range.
 pub fn parameters(p: Parameters) -> Answer
     ensures { λ r. ⌜ r ≡ row9 p ⌝ }
 {
-    let dt = rows::tested(rows::in_range(0.125, p.dt, 60.0), 9, 0);
-    let tau = rows::tested(rows::in_range(0.0, p.tau, 1.0), 9, 1);
-    let k = rows::tested(rows::in_range(0.0, p.k, 1.0), 9, 2);
-    let f = rows::tested(rows::in_range(-0.001, p.f, 0.001), 9, 3);
+    let dt = limit(0.125, p.dt, 60.0, 9, 0);
+    let tau = limit(0.0, p.tau, 1.0, 9, 1);
+    let k = limit(0.0, p.k, 1.0, 9, 2);
+    let f = limit(-0.001, p.f, 0.001, 9, 3);
     rows::first(dt, rows::first(tau, rows::first(k, f)))
 }
 
@@ -53,8 +62,8 @@ pub fn held_wind(w: Wind) -> Answer
 pub fn forcing(elevation: f64, w: Wind) -> Answer
     ensures { λ r. ⌜ r ≡ row12New elevation w ⌝ }
 {
-    let level = rows::tested(rows::in_range(-30.0, elevation, 30.0), 12, 1);
-    let wx = rows::tested(rows::in_range(-0.1, w.x, 0.1), 12, 2);
-    let wy = rows::tested(rows::in_range(-0.1, w.y, 0.1), 12, 3);
+    let level = limit(-30.0, elevation, 30.0, 12, 1);
+    let wx = limit(-0.1, w.x, 0.1, 12, 2);
+    let wy = limit(-0.1, w.y, 0.1, 12, 3);
     rows::first(level, rows::first(wx, wy))
 }

@@ -1,5 +1,5 @@
 -- Where the mesh's rows accept, the mesh is as `Shaped` says, and so is what the call asked before.
-use Prim.Native.Nat.{ℕ, zero, suc, _/_, _%_, _<_}
+use Prim.Native.Nat.{ℕ, zero, suc, _/_, _%_, _<_, _≤_}
 use mathlib.Core.Path.{_≡_, refl, sym, ap, subst, _∙_}
 use mathlib.Core.Bool.{Bool, true, false, _&&_}
 use mathlib.Core.List.{List}
@@ -111,6 +111,10 @@ module _ (asked : Answer) (m : Mesh) where
           sized = sized m (then-first _ _ e1) (then-first _ _ e2);
           triangles = λ t h. sound (m .x) (m .y) (m .tri) t (scan-clean _ _ (then-rest _ _ e2) t h);
         }
+
+    -- what the rows of the nodes ask of the slices
+    pub for-nodes : ((N m ≤ 4096) × (length (m .h) ≡ N m) × (length (m .kind) ≡ N m)) × ((j : ℕ) → j < length (m .tri) → getD (m .tri) j 0 < N m)
+    for-nodes = let z = shaped .sized in ((z .most-nodes, z .h, z .kind), numbers-below m shaped)
 
 -- row 8: each depth is in its range
 pub depth-in : (n : ℕ) (tri : List ℕ) (h : List Float) (kind : List ℕ) (p : Parameters) → nodeRows n tri h kind p .number ≡ 0 → (i : ℕ) → i < n

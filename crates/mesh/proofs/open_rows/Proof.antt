@@ -1,34 +1,23 @@
-use mathlib.Core.Path.{_≡_, _∙_}
+use mathlib.Core.Path.{_∙_}
 use Rattle.lists.proofs.ScanLaws.{same-number, stops, goes}
-use Rattle.mesh.specs.Lent.{Mesh, mesh}
-use Rattle.mesh.specs.Rows.{shapeRows, openRows}
-use Rattle.mesh.proofs.ShapedLaws.{shaped, numbers-below}
+use Rattle.mesh.specs.Rows.{openRows}
+use Rattle.mesh.proofs.ShapedLaws.{for-nodes}
 use Rattle.mesh.proofs.open_rows.Statement.{statement}
 use Rattle.mesh.proofs.open_rows.Tie as tie
-
-abbrev net : tie.Start → Mesh
-net s = mesh (s .args .x .now) (s .args .y .now) (s .args .tri .now) (s .args .h .now) (s .args .kind .now)
-
-abbrev start : tie.Else1 → tie.Start
-start c = c .before .before .before .before .before .before
-
-fine : (c : tie.Else1) → shapeRows (start c .args .asked) (net (start c)) .number ≡ 0
-fine c = same-number (c .before .before .shape-rows .ensures) (c .if1 .left)
 
 returns : tie.Need-returns
 unfolding openRows
 returns c = stops _ (c .before .before .shape-rows .ensures) (c .if1 .taken)
 
-node-rows-requires : tie.Need-node-rows-requires
-node-rows-requires c κs =
-    let s = shaped _ (net (start c)) (fine c) in
-    ((s .sized .most-nodes, s .sized .h, s .sized .kind), numbers-below _ s)
-
 returns-2 : tie.Need-returns-2
 unfolding openRows
 returns-2 c =
     let n = c .before .before in
-    goes _ (fine (n .before)) (c .first .ensures ∙ rw (c .before .legs .ensures, n .node-rows .ensures))
+    let e = n .before in
+    goes _ (same-number (e .before .before .shape-rows .ensures) (e .if1 .left)) (c .first .ensures ∙ rw (c .before .legs .ensures, n .node-rows .ensures))
 
 pub open-rows-spec : {M : Type 1} → statement M
-open-rows-spec = tie.close (tie.spec (λ c κs. tt) returns node-rows-requires (λ c κs. tt) (λ c κs. tt) returns-2)
+open-rows-spec =
+    tie.close
+    (tie.spec (λ c κs. tt) returns (λ c κs. for-nodes _ _ (same-number (c .before .before .shape-rows .ensures) (c .if1 .left))) (λ c κs. tt)
+    (λ c κs. tt) returns-2)
