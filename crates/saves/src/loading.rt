@@ -1,7 +1,6 @@
 // The lines of a save, read back: the rows of a load, the clock and the state that the lines hold.
 use crate::clocks;
 use equations::Node;
-use frames::patterns;
 use frames::reading;
 use lists::rows;
 use lists::rows::Answer;
