@@ -6,7 +6,7 @@ use quantities::Parameters;
 
 fn print_state(state: &[f64]) {
     for i in 0..state.len() {
-        io::print_hex(STDOUT_FILENO, frames::patterns::pattern_of(state[i]), 16);
+        io::print_hex(STDOUT_FILENO, patterns::pattern_of(state[i]), 16);
         io::write_all(STDOUT_FILENO, b"\n");
     }
 }

@@ -11,8 +11,8 @@ use lib.ListN.{length, take, drop, replicate, length-append}
 use lib.Seq.{take-append-seam, drop-append-add}
 use Rattle.io.specs.Digits.{digits, Fewest}
 use Rattle.lists.specs.declared.rows.Answer.{Answer}
-use Rattle.frames.specs.Building.{laid}
 use Rattle.frames.specs.Frames.{lineFeed}
+use Rattle.lines.specs.Building.{laid}
 use Rattle.forcelog.specs.declared.Words.{Words}
 use Rattle.forcelog.specs.Printed.{numeralOf, numeral, refusedWord, atWord, refusal, roomOfWords, words}
 use Rattle.forcelog.specs.Private.{joined}

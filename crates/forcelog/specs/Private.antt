@@ -4,7 +4,7 @@ use mathlib.Core.Bool.{cond}
 use mathlib.Core.List.{List}
 use lib.Dec.{leb}
 use lib.ListN.{length}
-use Rattle.frames.specs.Building.{laid}
+use Rattle.lines.specs.Building.{laid}
 use Rattle.forcelog.specs.declared.Words.{Words}
 use Rattle.forcelog.specs.Printed.{roomOfWords}
 

@@ -12,13 +12,12 @@ use lib.Seq.{take-at, drop-at, getD-at, split-at}
 use lib.Ieee.{Float, binary64, fits, ofBits}
 use Rattle.lists.specs.Scan.{accepted, _then_}
 use Rattle.lists.proofs.ScanLaws.{row-holds}
+use Rattle.patterns.proofs.PatternLaws.{pattern-fits, float-back}
 use Rattle.frames.specs.Bytes.{digits, allDigits, field, check}
 use Rattle.frames.specs.Frames.{Field, Frame, wide, opening, allFields, fieldBytes, checked, frameBytes, lineFeed, text, bits, digitsOf, byteOf}
 use Rattle.frames.specs.Private.{InField, widthsOf, fieldAt}
 use Rattle.frames.specs.Reading.{value, float, isFramed, row20, row21, row22, fault}
-use Rattle.frames.proofs.ByteLaws.{digits-right, digits-length, field-length}
-use Rattle.frames.proofs.PatternLaws.{pattern-fits, float-back}
-use Rattle.frames.proofs.ByteLaws.{number-back, number-small}
+use Rattle.frames.proofs.ByteLaws.{digits-right, digits-length, field-length, number-back, number-small}
 use Rattle.frames.proofs.FrameLaws.{fields-before, fields-join, checked-sum, frame-bytes, line-digits, text-length, text-bytes}
 
 -- ---- a value that is read is small enough for its width, on every line

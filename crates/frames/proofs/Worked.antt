@@ -1,10 +1,7 @@
 -- The frames' worked examples of document 01, computed.
 use mathlib.Core.Path.{_≡_, refl}
-use mathlib.Core.Bool.{true}
 use mathlib.Core.List.{[], _∷_}
 use lib.Dec.{lit<, lit≤}
-use lib.IntN.{pos}
-use lib.Ieee.{nan, fin, binary64, toBits, ofBits}
 use Rattle.frames.specs.Frames.{Frame, wide, text, digitsOf}
 use Rattle.frames.specs.Private.{widthsOf}
 use Rattle.frames.specs.Reading.{value}
@@ -22,16 +19,3 @@ head-digits = refl
 head-back : value (text headT) 5 2 ≡ 1
 unfolding headT
 head-back = field-back headT 1 (lit< tt) (record { narrow = lit≤ tt; small = lit< tt })
-
--- "-0 saved as +0" is a fault we have met; a NaN has one pattern, and each of its patterns is read as it
-minus-zero : toBits binary64 (fin true 0 (pos 0)) ≡ 0x8000000000000000
-unfolding toBits
-minus-zero = refl
-
-one-nan : toBits binary64 nan ≡ 0x7FF8000000000000
-unfolding toBits
-one-nan = refl
-
-each-nan : ofBits binary64 0xFFFFFFFFFFFFFFFF ≡ nan
-unfolding ofBits
-each-nan = refl

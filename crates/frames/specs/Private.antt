@@ -1,19 +1,14 @@
 -- How a line is taken apart, for laws and for the contracts of private functions. No public contract cites it.
-use Prim.Native.Nat.{ℕ, _+_, _*_, _%_, _^_, _<_, _≤_}
+use Prim.Native.Nat.{ℕ, _+_, _*_, _^_, _<_, _≤_}
 use mathlib.Core.Bool.{Bool, _&&_}
 use mathlib.Core.List.{List, [], _∷_}
 use lib.ListN.{getD}
-use Rattle.frames.specs.declared.digits.Tally.{Tally}
-use Rattle.frames.specs.Bytes.{isDigit, bytes, allDigits, sum}
+use Rattle.frames.specs.Bytes.{isDigit}
 use Rattle.frames.specs.Frames.{Field, wide}
 
 -- the characters of byte k are digits
 abbrev pub areDigits : List ℕ → ℕ → Bool
 areDigits t k = isDigit (getD t (2 * k) 0) && isDigit (getD t (2 * k + 1) 0)
-
--- what one pass over a text gives: the sum of its bytes, and whether they are made of digits
-unfoldable pub tallied : List ℕ → Tally
-tallied text = record { sum = sum (bytes text) % 256; right = allDigits text }
 
 -- how many bytes each field has
 abbrev pub widthsOf : List Field → List ℕ

@@ -7,6 +7,7 @@ use lib.Dec.{leb, eqb}
 use lib.Ieee.{Float, binary64, ofBits}
 use Rattle.lists.specs.declared.rows.Answer.{Answer}
 use Rattle.lists.specs.Scan.{row, _then_}
+use Rattle.frames.specs.declared.digits.Tally.{Tally}
 use Rattle.frames.specs.Bytes.{bytes, allDigits, number, sum}
 use Rattle.frames.specs.Frames.{lineFeed}
 
@@ -21,6 +22,10 @@ float line at = ofBits binary64 (value line at 8)
 -- the four fields of 8 bytes that follow kind and sequence, as in a node's line
 unfoldable pub values : List ℕ → List ℕ
 values line = value line 3 8 ∷ value line 11 8 ∷ value line 19 8 ∷ value line 27 8 ∷ []
+
+-- what one pass over a text gives: the sum of its bytes, and whether they are made of digits
+unfoldable pub tallied : List ℕ → Tally
+tallied text = record { sum = sum (bytes text) % 256; right = allDigits text }
 
 -- the digits due, two for each byte, and then the line feed and nothing more
 unfoldable pub isFramed : List ℕ → ℕ → Bool

@@ -2,15 +2,9 @@
 ghost use mathlib.Core.Path.{_≡_};
 ghost use Prim.Native.Nat.{_+_, _*_, _<_, _≤_};
 ghost use lib.ListN.{length, take, getD};
-ghost use Rattle.frames.specs.Bytes.{digit, worth, bytes};
-ghost use Rattle.frames.specs.Private.{areDigits, tallied};
-
-pub(crate) fn digit(n: u8) -> u8
-    requires { ⌜ n < 16 ⌝ }
-    ensures { λ r. ⌜ r ≡ digit n ⌝ }
-{
-    if n < 10 { 48 + n } else { 55 + n }
-}
+ghost use Rattle.frames.specs.Bytes.{worth, bytes};
+ghost use Rattle.frames.specs.Private.{areDigits};
+ghost use Rattle.frames.specs.Reading.{tallied};
 
 // What a digit is worth, and 16 where it is no digit: the one place that knows what a digit is.
 fn worth(d: u8) -> u8
@@ -56,13 +50,13 @@ pub(crate) fn frame(text: &[u8]) -> [u8; 36]
 }
 
 // The sum of a text's bytes, modulo 256, and whether they are made of digits.
-pub(crate) struct Tally {
+pub struct Tally {
     pub sum: u64,
     pub right: bool,
 }
 
 // Digits and sum in one pass. The pairs are counted before, and the remainder is of the sum alone, so that the compiler takes many pairs at a time.
-pub(crate) fn tallied(text: &[u8]) -> Tally
+pub fn tallied(text: &[u8]) -> Tally
     ensures { λ r. ⌜ r ≡ tallied (now (text .entry)) ⌝ }
 {
     let n = text.len() / 2;

@@ -1,5 +1,3 @@
-// One frame a line: binary64 patterns, digits and fields, a line while it is built, and a line that is read.
-pub(crate) mod digits;
-pub mod lines;
-pub mod patterns;
+// One frame a line: its digits and fields, its check byte, and a line that is read.
+pub mod digits;
 pub mod reading;

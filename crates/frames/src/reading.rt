@@ -1,6 +1,5 @@
 // One line, read from a slice: rows 20 to 22 of the refusal table, and the values of its fields.
 use crate::digits;
-use crate::patterns;
 use lists::rows;
 use lists::rows::Answer;
 ghost use mathlib.Core.Path.{_≡_};

@@ -6,11 +6,11 @@ use native.Mathlib.Numerals.{add-one}
 use native.Mathlib.Omega.{arith}
 use lib.ListN.{length, drop, length-append, length-drop}
 use lib.Ieee.{Float}
-use Rattle.frames.specs.declared.lines.Line.{Line}
 use Rattle.frames.specs.Frames.{text}
-use Rattle.frames.specs.Building.{Put, holding, putOut, putOf}
-use Rattle.frames.proofs.BuildLaws.{put-holding}
-use Rattle.frames.proofs.LaidLaws.{laid-next}
+use Rattle.lines.specs.declared.Line.{Line}
+use Rattle.lines.specs.Building.{Put, holding, putOut, putOf}
+use Rattle.lines.proofs.BuildLaws.{put-holding}
+use Rattle.lines.proofs.LaidLaws.{laid-next}
 use Rattle.surge.specs.declared.Clock.{Clock}
 use Rattle.saves.specs.Lines.{saveLength}
 use Rattle.saves.specs.Save.{lineOf, linesTo}

@@ -1,6 +1,5 @@
 // The lines of a save, read back: the rows of a load, the clock and the state that the lines hold.
 use crate::clocks;
-use frames::patterns;
 use frames::reading;
 use lists::rows;
 use lists::rows::Answer;

@@ -1,14 +1,12 @@
 // The lines of a save, written one after the other.
-use frames::lines;
-use frames::lines::Line;
-use frames::patterns;
+use lines::Line;
 use surge::Clock;
 ghost use mathlib.Core.Path.{_≡_};
 ghost use mathlib.Core.List.{_++_};
 ghost use Prim.Native.Nat.{_+_, _*_, _<_, _≤_};
 ghost use lib.ListN.{length, drop};
 ghost use Rattle.frames.specs.Frames.{text};
-ghost use Rattle.frames.specs.Building.{holding};
+ghost use Rattle.lines.specs.Building.{holding};
 ghost use Rattle.bounds.specs.State.{stateRuns};
 ghost use Rattle.saves.specs.Lines.{head, stateValues, nodeLine, end, saveLength};
 ghost use Rattle.saves.specs.Save.{lineOf, saveText};

@@ -2,7 +2,7 @@
 use mathlib.Core.Path.{_≡_, refl, sym, ap, _∙_}
 use contract.Lifetimes.{Lfts}
 use borrow.Fn.Kinds.{Dens}
-use Rattle.frames.specs.Building.{Put, putOut}
+use Rattle.lines.specs.Building.{Put, putOut}
 use Rattle.surge.specs.Lent.{After, after}
 use Rattle.passes.specs.Settle.{Settled, settled}
 use Rattle.surge.specs.Step.{StepOut, stepOut}
@@ -58,16 +58,18 @@ use Rattle.limits.proofs.held_wind.Kinds as held-wind-kinds
 use Rattle.limits.proofs.held_wind.Reads as held-wind-reads
 use Rattle.limits.proofs.forcing.Kinds as forcing-kinds
 use Rattle.limits.proofs.forcing.Reads as forcing-reads
-use Rattle.frames.proofs.patterns.pattern_of.Kinds as pattern-of-kinds
-use Rattle.frames.proofs.patterns.pattern_of.Reads as pattern-of-reads
-use Rattle.frames.proofs.patterns.float_of.Kinds as float-of-kinds
-use Rattle.frames.proofs.patterns.float_of.Reads as float-of-reads
-use Rattle.frames.proofs.lines.Line.begin.Kinds as begin-kinds
-use Rattle.frames.proofs.lines.Line.begin.Reads as begin-reads
-use Rattle.frames.proofs.lines.Line.append.Kinds as append-kinds
-use Rattle.frames.proofs.lines.Line.append.Reads as append-reads
-use Rattle.frames.proofs.lines.Line.seal.Kinds as seal-kinds
-use Rattle.frames.proofs.lines.Line.seal.Reads as seal-reads
+use Rattle.patterns.proofs.pattern_of.Kinds as pattern-of-kinds
+use Rattle.patterns.proofs.pattern_of.Reads as pattern-of-reads
+use Rattle.patterns.proofs.float_of.Kinds as float-of-kinds
+use Rattle.patterns.proofs.float_of.Reads as float-of-reads
+use Rattle.lines.proofs.Line.begin.Kinds as begin-kinds
+use Rattle.lines.proofs.Line.begin.Reads as begin-reads
+use Rattle.lines.proofs.Line.append.Kinds as append-kinds
+use Rattle.lines.proofs.Line.append.Reads as append-reads
+use Rattle.lines.proofs.Line.seal.Kinds as seal-kinds
+use Rattle.lines.proofs.Line.seal.Reads as seal-reads
+use Rattle.frames.proofs.digits.tallied.Kinds as tallied-kinds
+use Rattle.frames.proofs.digits.tallied.Reads as tallied-reads
 use Rattle.frames.proofs.reading.value.Kinds as value-kinds
 use Rattle.frames.proofs.reading.value.Reads as value-reads
 use Rattle.frames.proofs.reading.float_at.Kinds as float-at-kinds
@@ -76,8 +78,8 @@ use Rattle.frames.proofs.reading.values.Kinds as values-kinds
 use Rattle.frames.proofs.reading.values.Reads as values-reads
 use Rattle.frames.proofs.reading.fault.Kinds as fault-kinds
 use Rattle.frames.proofs.reading.fault.Reads as fault-reads
-use Rattle.frames.proofs.lines.put.Kinds as put-kinds
-use Rattle.frames.proofs.lines.put.Reads as put-reads
+use Rattle.lines.proofs.put.Kinds as put-kinds
+use Rattle.lines.proofs.put.Reads as put-reads
 use Rattle.lists.proofs.slices.clear_whole.Kinds as clear-whole-kinds
 use Rattle.lists.proofs.slices.clear_whole.Reads as clear-whole-reads
 use Rattle.bounds.proofs.run_rows.Kinds as run-rows-kinds
@@ -211,6 +213,9 @@ append-determined κs a x y v w p q = (same p q, refl)
 
 pub seal-determined : Determined seal-kinds.ps seal-kinds.r seal-reads.Post
 seal-determined κs a x y v w p q = (same p q, refl)
+
+pub tallied-determined : Determined tallied-kinds.ps tallied-kinds.r tallied-reads.Post
+tallied-determined κs a x y v w p q = (same p q, refl)
 
 pub value-determined : Determined value-kinds.ps value-kinds.r value-reads.Post
 value-determined κs a x y v w p q = (same p q, refl)

@@ -6,7 +6,7 @@ use borrow.Author.Needs.{needs}
 use borrow.Author.Tests.{le-leb, lt-leb}
 use lib.ListN.{length, length-set}
 use lib.Seq.{paste, paste-zero, paste-suc, take-length}
-use Rattle.frames.specs.Building.{laid}
+use Rattle.lines.specs.Building.{laid}
 use Rattle.forcelog.specs.Printed.{roomOfWords}
 use Rattle.forcelog.specs.Private.{joined}
 use Rattle.forcelog.proofs.with.Statement.{statement}

@@ -6,7 +6,7 @@ use native.Mathlib.Omega.{arith}
 use lib.ListN.{length, drop, length-drop, drop-of-length-le}
 use lib.Seq.{drop-cons}
 use Rattle.frames.specs.Bytes.{bytes, allDigits, sum}
-use Rattle.frames.specs.Private.{tallied}
+use Rattle.frames.specs.Reading.{tallied}
 use Rattle.frames.proofs.ByteLaws.{bytes-length, digits-pair, digits-none, sum-more}
 use Rattle.frames.proofs.digits.tallied.Statement.{statement}
 use Rattle.frames.proofs.digits.tallied.Tie as tie

@@ -1,5 +1,4 @@
-use Rattle.frames.specs.Reading.{row20, row21, row22, fault}
-use Rattle.frames.specs.Private.{tallied}
+use Rattle.frames.specs.Reading.{tallied, row20, row21, row22, fault}
 use Rattle.frames.proofs.reading.fault.Statement.{statement}
 use Rattle.frames.proofs.reading.fault.Tie as tie
 

@@ -1,6 +1,6 @@
 use lib.Dec.{lit<}
-use Rattle.frames.specs.Building.{withFields}
-use Rattle.frames.proofs.FrameLaws.{built}
+use Rattle.lines.specs.Building.{withFields}
+use Rattle.lines.proofs.WholeLaws.{built}
 use Rattle.saves.specs.Lines.{end}
 use borrow.Author.Needs.{needs}
 use Rattle.saves.proofs.writing.end_line.Statement.{statement}

@@ -1,7 +1,7 @@
 use lib.Dec.{lit<}
 use borrow.Author.Needs.{needs}
-use Rattle.frames.specs.Building.{withFields}
-use Rattle.frames.proofs.FrameLaws.{built}
+use Rattle.lines.specs.Building.{withFields}
+use Rattle.lines.proofs.WholeLaws.{built}
 use Rattle.saves.specs.Lines.{stateValues, nodeLine}
 use Rattle.saves.proofs.writing.node_line.Statement.{statement}
 use Rattle.saves.proofs.writing.node_line.Tie as tie

@@ -1,0 +1,2 @@
+pub mod PatternLaws
+mod Worked
