@@ -6,8 +6,8 @@ use Rattle.quantities.specs.declared.Parameters.{Parameters}
 use Rattle.quantities.specs.declared.Wind.{Wind}
 use Rattle.quantities.specs.declared.Node.{Node}
 use Rattle.quantities.specs.declared.Sides.{Sides}
-use Rattle.equations.specs.declared.Means.{Means}
 use Rattle.quantities.specs.declared.Shares.{Shares}
+use Rattle.equations.specs.declared.Means.{Means}
 
 -- "For each triangle, zi* = z minus earlier z, Hi = hi+zi, qxi = Ui·Hi, qyi = Vi·Hi"
 module _ (i : Node) where

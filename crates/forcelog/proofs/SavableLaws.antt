@@ -28,7 +28,7 @@ use Rattle.forcelog.specs.declared.Took.{Took}
 use Rattle.forcelog.specs.MeshT.{T, T-parameters}
 use Rattle.forcelog.specs.Log.{coldLog, rooms, stepped, takeOf, endOf}
 use Rattle.forcelog.specs.Printed.{ending}
-use Rattle.forcelog.specs.Savable.{Savable}
+use Rattle.forcelog.specs.Private.{Savable}
 use Rattle.forcelog.proofs.LogLaws.{took-step, counted}
 use Rattle.forcelog.proofs.MeshLaws.{T-opens}
 

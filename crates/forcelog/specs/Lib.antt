@@ -2,5 +2,4 @@ pub mod MeshT
 pub mod Log
 pub mod Printed
 pub mod Empty
-pub mod Savable
 pub mod Private

@@ -7,7 +7,7 @@ use libc::STDOUT_FILENO;
 use lists::rows::Answer;
 ghost use mathlib.Core.Path.{_≡_};
 ghost use Rattle.forcelog.specs.Printed.{ending};
-ghost use Rattle.forcelog.specs.Savable.{Savable};
+ghost use Rattle.forcelog.specs.Private.{Savable};
 
 // The save at the end: it is never refused, so the room is full.
 fn save_text(log: Log) -> [u8; 289]

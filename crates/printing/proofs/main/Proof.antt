@@ -1,7 +1,7 @@
 use Prim.Native.Nat.{_≤_, _-_}
 use native.Mathlib.Omega.{arith}
 use borrow.Author.Needs.{needs}
-use Rattle.forcelog.specs.Savable.{Savable}
+use Rattle.forcelog.specs.Private.{Savable}
 use Rattle.forcelog.proofs.SavableLaws.{cold-savable, cold-lines, taken-on}
 use Rattle.printing.proofs.main.Statement.{statement}
 use Rattle.printing.proofs.main.Tie as tie
