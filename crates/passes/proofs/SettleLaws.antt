@@ -36,7 +36,7 @@ published n next a b c d e =
     let l = inRun n 1 next in
     let m = inRun n 2 next in
     let k = inRun n 3 next in
-    ap (λ (r : List Float). withRun n 3 d (withRun n 2 c (withRun n 1 b (withRun n 0 a r)))) (as-runs n nan 4 next e)
+    ap (λ (r : List Float). withRun n 3 d (withRun n 2 c (withRun n 1 b (withRun n 0 a r)))) (as-runs n nan stateRuns next e)
     ∙ ap (λ (r : List Float). withRun n 3 d (withRun n 2 c (withRun n 1 b r))) (run-put n (inRun n 0 next ∷ l ∷ m ∷ k ∷ []) 0 a (lit< tt))
     ∙ ap (λ (r : List Float). withRun n 3 d (withRun n 2 c r)) (run-put n (a ∷ l ∷ m ∷ k ∷ []) 1 b (lit< tt))
     ∙ ap (λ (r : List Float). withRun n 3 d r) (run-put n (a ∷ b ∷ m ∷ k ∷ []) 2 c (lit< tt))
@@ -51,7 +51,7 @@ next-state g ew en =
     let z = inRun n 1 (g .state) in
     let fs = rise g ∷ U′ g ∷ V′ g ∷ [] in
     let r = flowRoom g in
-    let read : (k : ℕ) → k < 3 → (i : ℕ) → i < n → inRun n k r i ≡ getD fs k (λ _. nan) i = λ k h i l. run-read n fs k i nan h l in
+    let read : (k : ℕ) → k < workRuns → (i : ℕ) → i < n → inRun n k r i ≡ getD fs k (λ _. nan) i = λ k h i l. run-read n fs k i nan h l in
     en
     ∙ ap (λ (w : List Float). runsOf n (z ∷ inRun n 0 w ∷ inRun n 1 w ∷ inRun n 2 w ∷ [])) ew
     ∙ run-same n (z ∷ zero ∷ inRun n 1 r ∷ inRun n 2 r ∷ []) 1 (inRun n 0 r) (rise g) (read 0 (lit< tt))

@@ -22,6 +22,7 @@ use Rattle.equations.specs.Elevation.{z′}
 use Rattle.equations.specs.Velocity.{flow, U′ as u′, V′ as v′}
 use Rattle.frames.proofs.BackLaws.{value-small}
 use Rattle.mesh.specs.Lent.{Mesh, N}
+use Rattle.bounds.specs.State.{stateRuns}
 use Rattle.surge.specs.Lent.{Run, coldState, coldClock}
 use Rattle.passes.specs.Equations.{riseOf, rise, flowOf, flowAt, nextState}
 use Rattle.surge.specs.Step.{givenOf, advance}
@@ -79,7 +80,7 @@ cold-clock-storable = record { step = lit< tt; wx = tt; wy = tt }
 
 pub cold-state-storable : (n : ℕ) → StorableState n (coldState n)
 unfolding fits
-cold-state-storable n = record { long = length-table (4 * n) _; values = λ j _. table-fit (4 * n) _ (λ i. tt) j }
+cold-state-storable n = record { long = length-table (stateRuns * n) _; values = λ j _. table-fit (stateRuns * n) _ (λ i. tt) j }
 
 -- ---- what the equations give of a run that can be saved, from a forcing of three binary64: a value of the run, of the forcing, or the result of an operation
 all-fit : (n : ℕ) (l : List Float) → StorableState n l → AllFit l

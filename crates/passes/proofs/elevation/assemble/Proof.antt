@@ -1,4 +1,4 @@
-use Prim.Native.Nat.{ℕ, _-_, _*_, _≤_, _<_}
+use Prim.Native.Nat.{ℕ, _-_, _*_, _≤_}
 use mathlib.Core.Path.{_≡_, sym, ap, _∙_}
 use native.Mathlib.Omega.{arith}
 use borrow.Author.Needs.{needs}
@@ -13,6 +13,7 @@ use Rattle.geometry.specs.Private.{nodesOf}
 use Rattle.mesh.specs.Lent.{mesh, E}
 use Rattle.mesh.proofs.SideLaws.{corners-read}
 use Rattle.passes.specs.Equations.{Given, given, count, cornersOf}
+use Rattle.passes.specs.Settle.{workRuns}
 use Rattle.passes.specs.Private.{Fits}
 use Rattle.passes.proofs.PassLaws.{sumsTo, S-to, in-run, inside, its-area, its-shares, sum-more, area-more, S-room}
 use Rattle.passes.proofs.SettleLaws.{cleared-room}
@@ -36,7 +37,7 @@ start l = l .before .before .before .before .before .before .before .before .bef
 fits : (l : tie.At-loop Inv-loop μ-loop) (f : Forcing) → Fits (its (start l) f)
 fits l f = let z = start l .pre .0 in record { shape = z .shape; state = z .state }
 
-long : (l : tie.At-loop Inv-loop μ-loop) → length (l .loop .work) ≡ 3 * length (start l .args .x .now)
+long : (l : tie.At-loop Inv-loop μ-loop) → length (l .loop .work) ≡ workRuns * length (start l .args .x .now)
 long l = ap length (l .loop .inv .1 (start l .args .f) .0) ∙ runs-length _ _
 
 sums-long : (l : tie.At-loop Inv-loop μ-loop) → length (l .loop .sums) ≡ length (start l .args .x .now)
@@ -69,7 +70,7 @@ spread-requires : tie.Need-spread-requires Inv-loop μ-loop
 spread-requires c κs =
     let k = c .before .before .before in
     let l = k .before .before in
-    rw (long l) (in-run 0 3 (lit< tt) (inside _ (fits l (start l .args .f)) _ (k .before .loop-test .taken) (corner k)))
+    rw (long l) (in-run 0 workRuns (lit< tt) (inside _ (fits l (start l .args .f)) _ (k .before .loop-test .taken) (corner k)))
 
 abbrev back : tie.After-area-of Inv-loop μ-loop → tie.After-places-at Inv-loop μ-loop
 back c = c .before .before .before .before .before .before .before .before

@@ -14,6 +14,7 @@ use Rattle.quantities.specs.declared.Wind.{Wind}
 use Rattle.mesh.specs.Lent.{mesh}
 use Rattle.passes.specs.Equations.{Given, given, count, node, S, rise}
 use Rattle.passes.specs.Row13.{riseRow}
+use Rattle.passes.specs.Settle.{workRuns}
 use Rattle.passes.specs.Private.{Fits, sumRoom, riseRoom}
 use Rattle.passes.proofs.PassLaws.{risesTo, its-rise, rise-more, rise-none, rise-all}
 use Rattle.passes.proofs.elevation.rises.Statement.{statement}
@@ -46,7 +47,7 @@ fits l = start l .pre .0
 inv : (l : tie.At-loop Inv-loop μ-loop) → (l .loop .work ≡ risesTo (here l) (l .loop .i)) × (l .loop .all ≡ eqb (scan (rowAt (here l)) (l .loop .i) .number) 0)
 inv l = l .loop .inv .1 (start l .args .w) (start l .pre .1 .0) (start l .pre .1 .1)
 
-long : (l : tie.At-loop Inv-loop μ-loop) → length (l .loop .work) ≡ 3 * length (start l .args .x .now)
+long : (l : tie.At-loop Inv-loop μ-loop) → length (l .loop .work) ≡ workRuns * length (start l .args .x .now)
 long l = ap length (inv l .0) ∙ runs-length _ _
 
 same : (l : tie.At-loop Inv-loop μ-loop) → length (l .loop .work) ≡ length (start l .args .work .now)

@@ -12,6 +12,7 @@ use Rattle.lists.proofs.RunLaws.{runs-length}
 use Rattle.mesh.specs.Lent.{mesh}
 use Rattle.passes.specs.Equations.{Given, given, count, flowAt}
 use Rattle.passes.specs.Row13.{flowRow}
+use Rattle.passes.specs.Settle.{workRuns}
 use Rattle.passes.specs.Private.{Fits, flowRoom}
 use Rattle.passes.proofs.PassLaws.{flowsTo, its-flow, flow-more, flow-none, flow-all}
 use Rattle.passes.proofs.velocity.flows.Statement.{statement}
@@ -42,7 +43,7 @@ fits : (l : tie.At-loop Inv-loop μ-loop) → Fits (here l)
 fits l = start l .pre .0
 
 -- the room's length, so that each place of its runs is within it
-long : (l : tie.At-loop Inv-loop μ-loop) → length (l .loop .work) ≡ 3 * length (start l .args .x .now)
+long : (l : tie.At-loop Inv-loop μ-loop) → length (l .loop .work) ≡ workRuns * length (start l .args .x .now)
 long l = ap length (l .loop .inv .1 .0) ∙ runs-length _ _
 
 same : (l : tie.At-loop Inv-loop μ-loop) → length (l .loop .work) ≡ length (start l .args .work .now)

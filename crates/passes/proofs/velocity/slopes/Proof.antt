@@ -1,4 +1,4 @@
-use Prim.Native.Nat.{_-_, _*_, _≤_, _<_}
+use Prim.Native.Nat.{_-_, _*_, _≤_}
 use mathlib.Core.Path.{_≡_, sym, ap, _∙_}
 use native.Mathlib.Omega.{arith}
 use lib.Dec.{lit<}
@@ -14,6 +14,7 @@ use Rattle.geometry.specs.Private.{nodesOf}
 use Rattle.mesh.specs.Lent.{mesh, E}
 use Rattle.mesh.proofs.SideLaws.{corners-read}
 use Rattle.passes.specs.Equations.{Given, given, cornersOf, floating}
+use Rattle.passes.specs.Settle.{workRuns}
 use Rattle.passes.specs.Private.{Fits, riseRoom}
 use Rattle.passes.proofs.PassLaws.{slopesTo, in-run, inside, its-floats, slope-more}
 use Rattle.passes.proofs.velocity.slopes.Statement.{statement}
@@ -42,7 +43,7 @@ fits l = start l .pre .0
 inv : (l : tie.At-loop Inv-loop μ-loop) → l .loop .work ≡ slopesTo (here l) (l .loop .t)
 inv l = let a = start l .args in l .loop .inv .1 (a .p) (a .w) (a .f) (start l .pre .1)
 
-long : (l : tie.At-loop Inv-loop μ-loop) → length (l .loop .work) ≡ 3 * length (start l .args .x .now)
+long : (l : tie.At-loop Inv-loop μ-loop) → length (l .loop .work) ≡ workRuns * length (start l .args .x .now)
 long l = ap length (inv l) ∙ runs-length _ _
 
 -- the corners that were read are those of triangle t
@@ -89,12 +90,12 @@ slopes-spec =
     (tie.spec Inv-loop μ-loop loop-holds (λ c κs. tt) (λ c κs. (fits (c .before .before) .shape .sized .y, below c)) (λ c κs. tt)
     (λ c κs. let k = c .before .before .before in let l = k .before .before in (below k, fits l .state, long l))
     (λ c. record { fits = omega (arith, fits (c .before .before .before .before .before .before .before) .shape .sized .most-nodes) }) (λ c κs. tt)
-    (λ c κs. let k = c .before .before .before .before .before .before in rw (long (k .before .before)) (in-run 1 3 (lit< tt) (below k)))
+    (λ c κs. let k = c .before .before .before .before .before .before in rw (long (k .before .before)) (in-run 1 workRuns (lit< tt) (below k)))
     (λ c. record { fits = omega (arith, fits (c .before .before .before .before .before .before .before .before .before .before .before .before) .shape .sized .most-nodes) })
     (λ c κs. tt)
     (λ c κs.
     let d = c .before .before .before .before in
     let k = d .before .before .before .before .before .before .before in
-    rw (d .spread .kept .0 ∙ long (k .before .before)) (in-run 2 3 (lit< tt) (below k)))
+    rw (d .spread .kept .0 ∙ long (k .before .before)) (in-run 2 workRuns (lit< tt) (below k)))
     (λ c. let t = c .before .before .before .before .before .before .before .before .before .before .before .before .before .before .before in record { fits = omega (arith, t .loop-test .taken, fits (t .before) .shape .sized .most-triangles) })
     (λ c. omega arith) loop-again (λ c. let l = c .before in long l ∙ sym (ap length (start l .pre .1) ∙ runs-length _ _)) returns)
