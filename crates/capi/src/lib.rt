@@ -12,7 +12,7 @@ ghost use Rattle.surge.specs.Open.{openOf};
 ghost use Rattle.surge.specs.Step.{stepOut, stepOf};
 ghost use Rattle.passes.specs.Settle.{lentRooms};
 ghost use Rattle.saves.specs.Save.{saveOut, saveOf};
-ghost use Rattle.saves.specs.Load.{loadOf};
+ghost use Rattle.loads.specs.Load.{loadOf};
 ghost use Rattle.forcings.specs.Forcings.{takenOf};
 ghost use Rattle.capi.specs.Numbers.{parameters, clock, forcing, answer, reply, taken};
 
@@ -161,7 +161,7 @@ pub extern "C" fn surge_load(
         wx: *wx,
         wy: *wy,
     };
-    let loaded = saves::load(state, text, x, y, tri, h, kind, p, c);
+    let loaded = loads::load(state, text, x, y, tri, h, kind, p, c);
     hand_back(place, value, step, wx, wy, loaded)
 }
 

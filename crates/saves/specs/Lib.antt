@@ -1,4 +1,2 @@
 pub mod Lines
 pub mod Save
-pub mod Load
-pub mod Storable

@@ -17,7 +17,7 @@ use Rattle.surge.specs.Open.{openOf}
 use Rattle.surge.specs.Step.{StepOut, stepOf, stepOut}
 use Rattle.frames.specs.Frames.{bits}
 use Rattle.saves.specs.Save.{saveOf, wrote}
-use Rattle.saves.specs.Load.{loadOf}
+use Rattle.loads.specs.Load.{loadOf}
 use Rattle.history.specs.History.{Written, Call, step, save, load, Saved, History, begun, latest, after, AllOwn, along}
 use Rattle.statements.specs.Demand3.{Weather, accepts, saved}
 use Rattle.statements.specs.RoundTrip.{gives}

@@ -22,7 +22,7 @@ use Rattle.passes.specs.Row13.{riseRow, flowRow, row13}
 use Rattle.surge.specs.Step.{advance, clockRows, stepRows, stepsTo, stepOf}
 use Rattle.saves.specs.Lines.{startOf}
 use Rattle.saves.specs.Save.{lineOf, linesTo, row24, saveAnswer, saveOf}
-use Rattle.saves.specs.Load.{row23, lineRows, clockOf, loadedNode, loadAnswer, loadedState, loadOf}
+use Rattle.loads.specs.Load.{row23, lineRows, clockOf, loadedNode, loadAnswer, loadedState, loadOf}
 
 unfoldable pub arithmetic : Unit {0}
 unfolding round le lt eq add sub mul div neg ofInt toBits ofBits decimal minus within

@@ -14,12 +14,12 @@ use Rattle.surge.specs.Lent.{Run}
 use Rattle.surge.specs.Step.{givenOf, refusedBefore, refusedBy13, wentOn, stepOf}
 use Rattle.passes.specs.Settle.{Rooms}
 use Rattle.saves.specs.Save.{saveOf}
-use Rattle.saves.specs.Load.{loadOf}
+use Rattle.loads.specs.Load.{loadOf}
 use Rattle.forcings.specs.Forcings.{takenOf}
 use Rattle.statements.specs.Demand1.{Accepts, Refuses, OpenSays, StepSays, SaveSays, LoadSays, ForcingSays, OpenKeepsDemand1, StepKeepsDemand1, SaveKeepsDemand1, LoadKeepsDemand1, ForcingKeepsDemand1}
 use Rattle.surge.proofs.NumberLaws.{not-13, only-13}
 use Rattle.surge.proofs.StepLaws.{early, late, step-cases}
-use Rattle.saves.proofs.LoadLaws.{load-cases}
+use Rattle.loads.proofs.LoadLaws.{load-cases}
 
 open-says : (m : Mesh) (p : Parameters) (state : List Float) → OpenSays m p state (openOf m p state)
 unfolding openOf

@@ -18,11 +18,11 @@ use Rattle.passes.specs.Settle.{Rooms}
 use Rattle.surge.proofs.StepLaws.{not-last, went-on, stayed}
 use Rattle.surge.proofs.NextLaws.{next-rows, next-wind}
 use Rattle.surge.proofs.ColdLaws.{cold-rows, cold-wind, opened-mesh}
-use Rattle.saves.specs.Storable.{StorableState, StorableClock}
-use Rattle.saves.proofs.OwnLaws.{saved-loaded}
-use Rattle.saves.proofs.StorableLaws.{clock-storable, state-storable, cold-clock-storable, cold-state-storable, next-state-storable, next-clock-storable}
+use Rattle.loads.specs.Storable.{StorableState, StorableClock}
+use Rattle.loads.proofs.OwnLaws.{saved-loaded}
+use Rattle.loads.proofs.StorableLaws.{clock-storable, state-storable, cold-clock-storable, cold-state-storable, next-state-storable, next-clock-storable}
 use Rattle.saves.proofs.SaveLaws.{save-accepts}
-use Rattle.saves.proofs.LoadLaws.{load-took, load-stayed, loaded-rows, loaded-wind}
+use Rattle.loads.proofs.LoadLaws.{load-took, load-stayed, loaded-rows, loaded-wind}
 use Rattle.history.specs.History.{Call, history, Laws}
 use Rattle.history.proofs.Demand3.{demand3, held-good}
 use Rattle.statements.specs.Demand3.{Weather, accepts, coldRun, stepped, saved, loaded, surge, Demand3AtSurge, OpensCold, OwnSavesLoad, HeldRunsSave}

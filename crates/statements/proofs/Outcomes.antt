@@ -62,6 +62,8 @@ use Rattle.patterns.proofs.pattern_of.Kinds as pattern-of-kinds
 use Rattle.patterns.proofs.pattern_of.Reads as pattern-of-reads
 use Rattle.patterns.proofs.float_of.Kinds as float-of-kinds
 use Rattle.patterns.proofs.float_of.Reads as float-of-reads
+use Rattle.surge.proofs.Clock.wind.Kinds as wind-kinds
+use Rattle.surge.proofs.Clock.wind.Reads as wind-reads
 use Rattle.lines.proofs.Line.begin.Kinds as begin-kinds
 use Rattle.lines.proofs.Line.begin.Reads as begin-reads
 use Rattle.lines.proofs.Line.append.Kinds as append-kinds
@@ -90,8 +92,8 @@ use Rattle.saves.proofs.save.Kinds as save-kinds
 use Rattle.saves.proofs.save.Reads as save-reads
 use Rattle.mesh.proofs.mesh_rows.Kinds as mesh-rows-kinds
 use Rattle.mesh.proofs.mesh_rows.Reads as mesh-rows-reads
-use Rattle.saves.proofs.load.Kinds as load-kinds
-use Rattle.saves.proofs.load.Reads as load-reads
+use Rattle.loads.proofs.load.Kinds as load-kinds
+use Rattle.loads.proofs.load.Reads as load-reads
 use Rattle.surge.proofs.step.Kinds as step-kinds
 use Rattle.surge.proofs.step.Reads as step-reads
 use Rattle.forcelog.proofs.cold.Kinds as cold-kinds
@@ -204,6 +206,9 @@ pattern-of-determined κs a x y v w p q = (same p q, refl)
 
 pub float-of-determined : Determined float-of-kinds.ps float-of-kinds.r float-of-reads.Post
 float-of-determined κs a x y v w p q = (same p q, refl)
+
+pub wind-determined : Determined wind-kinds.ps wind-kinds.r wind-reads.Post
+wind-determined κs a x y v w p q = (same p q, refl)
 
 pub begin-determined : Determined begin-kinds.ps begin-kinds.r begin-reads.Post
 begin-determined κs a x y v w p q = (same p q, refl)

@@ -1,5 +1,5 @@
 -- The round trip holds.
-use Rattle.saves.proofs.OwnLaws.{saved-loaded, same-text, loaded-again}
+use Rattle.loads.proofs.OwnLaws.{saved-loaded, same-text, loaded-again}
 use Rattle.statements.specs.RoundTrip.{RoundTrip}
 
 pub round-trip : RoundTrip

@@ -17,7 +17,7 @@ use Rattle.surge.specs.Lent.{Run}
 use Rattle.surge.specs.Step.{stepOf}
 use Rattle.frames.specs.Frames.{bits}
 use Rattle.saves.specs.Save.{wrote, saveOf}
-use Rattle.saves.specs.Load.{loadOf}
+use Rattle.loads.specs.Load.{loadOf}
 use Rattle.history.specs.History.{Calls, Call, step, save, load, History, begun, after, history, AllOwn, along}
 use Rattle.statements.specs.Demand3.{Weather, saved, surge}
 use Rattle.statements.specs.RoundTrip.{gives}

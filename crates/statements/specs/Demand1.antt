@@ -23,7 +23,7 @@ use Rattle.passes.specs.Settle.{Rooms, lentRooms, workRuns}
 use Rattle.forcings.specs.declared.Taken.{Taken}
 use Rattle.saves.specs.Lines.{saveLength}
 use Rattle.saves.specs.Save.{saveText, saveAnswer, SaveOut, saveOut, wrote}
-use Rattle.saves.specs.Load.{loadAnswer}
+use Rattle.loads.specs.Load.{loadAnswer}
 use Rattle.forcings.specs.Forcings.{still, forcingAnswer}
 use Rattle.surge.proofs.open.Kinds as open-kinds
 use Rattle.surge.proofs.open.Reads as open-reads
@@ -31,8 +31,8 @@ use Rattle.surge.proofs.step.Kinds as step-kinds
 use Rattle.surge.proofs.step.Reads as step-reads
 use Rattle.saves.proofs.save.Kinds as save-kinds
 use Rattle.saves.proofs.save.Reads as save-reads
-use Rattle.saves.proofs.load.Kinds as load-kinds
-use Rattle.saves.proofs.load.Reads as load-reads
+use Rattle.loads.proofs.load.Kinds as load-kinds
+use Rattle.loads.proofs.load.Reads as load-reads
 use Rattle.forcings.proofs.read_forcing.Kinds as read-forcing-kinds
 use Rattle.forcings.proofs.read_forcing.Reads as read-forcing-reads
 

@@ -18,7 +18,7 @@ use Rattle.surge.specs.Step.{advance, stepOf}
 use Rattle.passes.specs.Settle.{Rooms}
 use Rattle.saves.specs.Lines.{saveLength}
 use Rattle.saves.specs.Save.{saveOf}
-use Rattle.saves.specs.Load.{loadOf}
+use Rattle.loads.specs.Load.{loadOf}
 use Rattle.history.specs.History.{Reply, Written, Calls, Call, history, Demand3}
 
 -- a forcing as a program has it: each of its three numbers is a binary64

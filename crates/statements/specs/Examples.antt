@@ -21,7 +21,7 @@ use Rattle.surge.specs.Step.{stepOf}
 use Rattle.passes.specs.Settle.{Rooms, lentRooms}
 use Rattle.saves.specs.Lines.{head, end}
 use Rattle.saves.specs.Save.{linesTo, saveText}
-use Rattle.saves.specs.Load.{loadAnswer}
+use Rattle.loads.specs.Load.{loadAnswer}
 use Rattle.forcings.specs.Forcings.{still}
 use Rattle.forcelog.specs.Empty.{headWith, endWith}
 

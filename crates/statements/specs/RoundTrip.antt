@@ -13,8 +13,8 @@ use Rattle.bounds.specs.State.{stateRuns}
 use Rattle.surge.specs.Lent.{After, after}
 use Rattle.saves.specs.Lines.{saveLength}
 use Rattle.saves.specs.Save.{SaveOut, saveText, saveOf, wrote}
-use Rattle.saves.specs.Load.{loadOf}
-use Rattle.saves.specs.Storable.{StorableState, StorableClock}
+use Rattle.loads.specs.Load.{loadOf}
+use Rattle.loads.specs.Storable.{StorableState, StorableClock}
 use Rattle.statements.specs.Demand1.{Accepts}
 
 -- the text that a save wrote: as many bytes as its place says

@@ -34,7 +34,7 @@ impl Clock {
     }
 
     // The present wind.
-    pub(crate) fn wind(self) -> Wind
+    pub fn wind(self) -> Wind
         ensures { λ r. ⌜ r ≡ windOf self ⌝ }
     {
         Wind {

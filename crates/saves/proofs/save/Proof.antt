@@ -6,6 +6,7 @@ use borrow.Author.Tests.{leb-true}
 use lib.Ieee.{ofBits}
 use Rattle.lists.specs.Scan.{accepted, _then_}
 use Rattle.lists.proofs.ScanLaws.{row-passed, then-rest, same-number, stops, goes}
+use Rattle.limits.specs.Limits.{row12Held}
 use Rattle.mesh.specs.Lent.{Mesh, mesh}
 use Rattle.bounds.specs.State.{runRows}
 use Rattle.bounds.proofs.StateLaws.{AcceptedRun, accepted-run}
@@ -30,10 +31,10 @@ run : (c : tie.Else1) → let s = start (c .before .before) in AcceptedRun accep
 run c = accepted-run _ _ _ _ (passed c)
 
 -- with rows 12 and 24
-answered : (c : tie.After-first) → let s = start (c .before .before .before .before .before) in
+answered : (c : tie.After-first) → let s = start (c .before .before .before .before .before .before) in
     c .first .result ≡ saveAnswer (net s) (s .args .p) (s .args .state .now) (s .args .clock) (s .args .text .now)
 unfolding saveAnswer row24
-answered c = goes _ (passed (c .before .before .before)) (c .first .ensures ∙ (λ i. c .before .held-wind .ensures i then c .before .before .tested .ensures i))
+answered c = goes _ (passed (c .before .before .before .before)) (c .first .ensures ∙ (λ i. (c .before .held-wind .ensures ∙ ap row12Held (c .before .before .wind .ensures)) i then c .before .before .before .tested .ensures i))
 
 returns : tie.Need-returns
 unfolding saveAnswer
@@ -46,7 +47,7 @@ write-requires : tie.Need-write-requires
 unfolding saveAnswer row24
 write-requires c κs =
     let f = c .before .before .before in
-    let its = run (f .before .before .before) in
+    let its = run (f .before .before .before .before) in
     let fits = row-passed _ 23 _ (then-rest _ _ (then-rest _ _ (same-number (answered f) (c .before .if2 .left)))) in
     (its .shape .sized .most-nodes, its .long, leb-true _ _ fits)
 
@@ -61,5 +62,5 @@ pub save-spec : {M : Type 1} → statement M
 save-spec =
     tie.close
     (tie.spec (λ c κs. tt) (λ c κs. tt) returns (λ c. omega (arith, run c .shape .sized .most-nodes))
-    (λ c. omega (arith, run c .shape .sized .most-nodes)) (λ c κs. tt) (λ c κs. tt) (λ c κs. tt) returns-2 write-requires (λ c. search needs)
+    (λ c. omega (arith, run c .shape .sized .most-nodes)) (λ c κs. tt) (λ c κs. tt) (λ c κs. tt) (λ c κs. tt) returns-2 write-requires (λ c. search needs)
     returns-3)

@@ -1,0 +1,5 @@
+pub mod NodeLaws
+pub mod LoadLaws
+pub mod StorableLaws
+pub mod BackLaws
+pub mod OwnLaws
