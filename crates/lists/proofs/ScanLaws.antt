@@ -135,17 +135,17 @@ module _ (test : ℕ → Bool) (number : ℕ) where
       go true = refl
       go false = sym (ne-eqb (suc number) 0 (λ e. absurd (omega (arith, e))))
 
-  held : {n : ℕ} → ((k : ℕ) → k < n → test k ≡ true) → (k : ℕ) → k < n → rowOf k .number ≡ 0
-  held h k l = ap (λ (a : Answer). a .number) (row-holds (suc number) k (h k l))
+  met : {n : ℕ} → ((k : ℕ) → k < n → test k ≡ true) → (k : ℕ) → k < n → rowOf k .number ≡ 0
+  met h k l = ap (λ (a : Answer). a .number) (row-holds (suc number) k (h k l))
 
   -- a loop that is left at the first place whose test fails
   pub row-hit : {n i : ℕ} → i < n → ((k : ℕ) → k < i → test k ≡ true) → test i ≡ false → refused (suc number) i ≡ scan rowOf n
   row-hit {n} {i} l h e =
       let q = row-fails (suc number) i e in
-      sym q ∙ sym (scan-hit rowOf n i l (held h) (λ z. absurd (omega (arith, ap (λ (a : Answer). a .number) q, z))))
+      sym q ∙ sym (scan-hit rowOf n i l (met h) (λ z. absurd (omega (arith, ap (λ (a : Answer). a .number) q, z))))
 
   pub row-none : {n : ℕ} → ((k : ℕ) → k < n → test k ≡ true) → accepted ≡ scan rowOf n
-  row-none h = sym (scan-none rowOf _ (held h))
+  row-none h = sym (scan-none rowOf _ (met h))
 
 -- ---- some place
 or-true : (b : Bool) → (b || true) ≡ true
