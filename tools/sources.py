@@ -17,10 +17,12 @@ SCOPE = re.compile(
 CLAUSE = re.compile(r'\s*(?P<kind>[a-z]+)\s*(?=\{)')
 CLAUSES = ('ghost', 'requires', 'ensures', 'measure')
 RESULT = re.compile(r'(?:\[[^\]]*\]|[^{;\[])*?(?=\b(?:%s)\s*\{|[{;]|$)' % '|'.join(CLAUSES))
-FIELD = re.compile(r'^\s*(?:pub\s+)?(\w+)\s*:', re.M)
+INNER = re.compile(r'\([^(){}<>\[\]]*\)|\{[^(){}<>\[\]]*\}|<[^(){}<>\[\]]*>|\[[^(){}<>\[\]]*\]')
+PART = re.compile(r'\s*#?\s*(?:pub\s+)?(\w+)')
 
 NAME = r'[^\s(){}.;,@"=:]\S*'
 DECLARED = re.compile(rf'^(?P<indent> *)(?P<marks>(?:(?:abbrev|unfoldable|axiom|pub) +)*)(?P<names>{NAME}(?: +{NAME})*) +:(?= |$)')
+MODULE = re.compile(r' *(?:pub +)?module ')
 BLOCK = re.compile(r'^(?P<indent> *)(?P<marks>(?:pub +)?)(?:record|data) +(?P<name>[^\s({]+)')
 
 
@@ -121,14 +123,17 @@ def type_of(impl):
     return re.findall(r'\w+', re.sub(r'<[^<>]*>', '', impl.split(' where ')[0]))[-1]
 
 
-def fields_of(text, at):
-    """The names of a struct's fields, where it opens with a brace after `at`."""
+def parts_of(text, at):
+    """The names of a struct's fields or of an enum's cases, where it opens with a brace after `at`."""
     opened = re.compile(r'[^{;(]*\{').match(text, at)
-    return FIELD.findall(text[opened.end():closing(text, opened.end() - 1)]) if opened else []
+    body = text[opened.end():closing(text, opened.end() - 1) - 1] if opened else ''
+    while INNER.search(body):
+        body = INNER.sub('', body)
+    return [m.group(1) for part in body.split(',') if (m := PART.match(part))]
 
 
 def read_source(crate, file):
-    """The functions of a file of src/, and its other items: structs and their fields, enums, constants, modules."""
+    """The functions of a file of src/, and its other items: structs and enums with their parts, constants, modules."""
     text, at = code(file), 0
     scopes = [(word, None) for word in module_of(crate, file)]     # a name, and where its brace closes
     functions, items = [], []
@@ -147,8 +152,8 @@ def read_source(crate, file):
             at = closing(text, at) if text[at:].lstrip()[:1] == '{' else at
         elif m.group('item'):
             items.append(Item(crate.name, path, m.group('name')))
-            if m.group('item') == 'struct':
-                items += [Item(crate.name, path + (m.group('name'),), name) for name in fields_of(text, at)]
+            if m.group('item') in ('struct', 'enum'):
+                items += [Item(crate.name, path + (m.group('name'),), name) for name in parts_of(text, at)]
     return functions, items
 
 
@@ -178,27 +183,39 @@ def type_at(lines, k):
     return ' '.join(' '.join([first, *more]).split())
 
 
-def declarations(file):
-    """What a file of specs/ or proofs/ declares, the fields of its records and the cases of its data types among it.
-
-    Names that stand further in are its own where they are `pub`: the others are of a `where`.
-    """
-    lines = code(file).splitlines()
-    found, block, depth = [], None, None     # the record that is open: its name and indentation; the indentation of its fields
-    for k, line in enumerate(lines):
+def own_lines(lines):
+    """Whether each line stands where the file or a module of it declares: the lines of a type, of a proof and of a `where` stand further in."""
+    levels, opened = [0], ''
+    for line in lines:
         if not line.strip():
+            yield False
             continue
-        if block and indent(line) <= block[1]:
-            block, depth = None, None
-        m = BLOCK.match(line)
-        if m:
-            block = (m.group('name'), indent(line))
-            found.append(Declared(m.group('name'), k + 1, 'pub' in m.group('marks'), '', ''))
-            continue
-        depth = indent(line) if block and depth is None else depth
+        if opened == 'body':
+            levels.append(indent(line))
+            opened = ''
+        while indent(line) < levels[-1]:
+            levels.pop()
+        yield indent(line) == levels[-1]
+        if MODULE.match(line) and indent(line) == levels[-1]:
+            opened = 'head'
+        if opened and line.rstrip().endswith(' where'):
+            opened = 'body'
+
+
+def declarations(file):
+    """What a file of specs/ or proofs/ declares, the fields of its records and the cases of its data types among it."""
+    lines = code(file).splitlines()
+    found, block, depth = [], None, None     # the record that is open, where it stands, and where its fields do
+    for k, (line, own) in enumerate(zip(lines, own_lines(lines))):
+        if own:
+            block, depth = BLOCK.match(line), None
+            if block:
+                found.append(Declared(block.group('name'), k + 1, 'pub' in block.group('marks'), '', ''))
+                continue
+        elif block and line.strip() and depth is None:
+            depth = indent(line)
         m = DECLARED.match(line)
-        inside = block and indent(line) == depth
-        if m and (inside or not block and (indent(line) == 0 or 'pub' in m.group('marks'))):
-            of = block[0] if block else ''
+        if m and (own or block and indent(line) == depth):
+            of = block.group('name') if block else ''
             found += [Declared(name.strip('«»'), k + 1, 'pub' in m.group('marks'), of, type_at(lines, k)) for name in m.group('names').split()]
     return found
