@@ -5,15 +5,17 @@ A comment and what stands in a string are read as blanks: a name that only they 
 import re
 from typing import NamedTuple
 
-RT = re.compile(r'(?P<line>//[^\n]*)|(?P<open>/\*)|b?"(?:\\.|[^"\\])*"|b?\'(?:\\[^\'\n]+|[^\\\'\n])\'', re.S)
-ANTT = re.compile(r'(?P<line>(?<!\S)--(?!\S)[^\n]*)|(?P<open>\{-)|"(?:\\.|[^"\\])*"', re.S)
+# comments and strings; in antt `a--b` is a name, and `--` begins a comment only where a word begins
+RT = re.compile(r'//[^\n]*|(?P<open>/\*)|b?"(?:\\.|[^"\\])*"|b?\'(?:\\[^\'\n]+|[^\\\'\n])\'', re.S)
+ANTT = re.compile(r'(?<![^\s(){}.;,@"«»])--[^\n]*|(?P<open>\{-)|"(?:\\.|[^"\\])*"', re.S)
 BLOCKS = {'/*': re.compile(r'/\*|\*/'), '{-': re.compile(r'\{-|-\}')}
 
-VISIBLE = r'(?P<seen>pub(?:\s*\([^)]*\))?\s+)?'
-SCOPE = re.compile(
-    r'\b(?:mod\s+(?P<mod>\w+)|impl\b(?P<impl>[^{;]*))\s*(?=\{)'
-    rf'|(?<![\w.]){VISIBLE}(?:(?P<fn>(?:(?:const|unsafe|extern)\s+)*fn)|(?P<item>struct|enum|const|static|type|mod))\s+(?P<name>\w+)'
-    r'|(?P<brace>[{}])')
+SCOPE = re.compile(r'''
+    \bmod \s+ (?P<mod>\w+) \s* (?=\{)
+  | \bimpl\b (?P<impl>[^{;]*) (?=\{)
+  | (?<![\w.]) (?P<seen> pub (?:\s*\([^)]*\))? \s+)?
+    (?: (?P<fn> (?:(?:const|unsafe|extern)\s+)* fn) | (?P<item> struct|enum|const|static|type|mod (?!\s+\w+\s*\{)) ) \s+ (?P<name>\w+)
+''', re.X)
 CLAUSE = re.compile(r'\s*(?P<kind>[a-z]+)\s*(?=\{)')
 CLAUSES = ('ghost', 'requires', 'ensures', 'measure')
 RESULT = re.compile(r'(?:\[[^\]]*\]|[^{;\[])*?(?=\b(?:%s)\s*\{|[{;]|$)' % '|'.join(CLAUSES))
@@ -21,9 +23,9 @@ INNER = re.compile(r'\([^(){}<>\[\]]*\)|\{[^(){}<>\[\]]*\}|<[^(){}<>\[\]]*>|\[[^
 PART = re.compile(r'\s*#?\s*(?:pub\s+)?(\w+)')
 
 NAME = r'[^\s(){}.;,@"=:]\S*'
-DECLARED = re.compile(rf'^(?P<indent> *)(?P<marks>(?:(?:abbrev|unfoldable|axiom|pub) +)*)(?P<names>{NAME}(?: +{NAME})*) +:(?= |$)')
+DECLARED = re.compile(rf'^ *(?P<marks>(?:(?:abbrev|unfoldable|axiom|pub) +)*)(?P<names>{NAME}(?: +{NAME})*) +:(?= |$)')
 MODULE = re.compile(r' *(?:pub +)?module ')
-BLOCK = re.compile(r'^(?P<indent> *)(?P<marks>(?:pub +)?)(?:record|data) +(?P<name>[^\s({]+)')
+BLOCK = re.compile(r'^ *(?P<marks>(?:pub +)?)(?:record|data) +(?P<name>[^\s({]+)')
 
 
 class Function(NamedTuple):
