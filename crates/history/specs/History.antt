@@ -1,8 +1,5 @@
--- Demand 3, for any run: "Take one run from a cold start, with an accepted mesh and parameters, both fixed, and lent room of the right sizes. After any
--- sequence of steps, saves and loads, refused ones among them, where each text loaded was saved earlier in that sequence and not altered, the run held,
--- state and clock, is what the equations of demand 2 give from the cold start, forcing by forcing, along its path. An accepted step adds its forcing to
--- the path. A load puts the path back to what it was at the latest save of that text. Saves and refused calls change nothing in it."
--- No mesh, no frame and no formula stands here: `Calls` is handed them.
+-- Demand 3, for any run, sentence by sentence; statements/specs/Demand3 has its words as a whole. No mesh, no frame and no formula stands here: `Calls` is
+-- handed them.
 use Prim.Native.Nat.{ℕ, zero, suc}
 use native.Mathlib.Decide.{ℕ-discrete}
 use mathlib.Core.Path.{_≡_}
@@ -52,6 +49,7 @@ module _ (M : Calls) where
     pub path : List (M .Forcing)
     pub saved : List Saved
 
+  -- "Take one run from a cold start"
   abbrev pub begun : History
   begun = record { held = M .cold; path = []; saved = [] }
 
@@ -61,7 +59,7 @@ module _ (M : Calls) where
   nth zero (s ∷ rest) = some s
   nth (suc i) (s ∷ rest) = nth i rest
 
-  -- the path at the latest save of the text t, if t was saved
+  -- "what it was at the latest save of that text": the path there, if t was saved
   abbrev pub latest : List ℕ → List Saved → Option (List (M .Forcing))
   latest t [] = none
   latest t (s ∷ rest) = ite (List-discrete ℕ-discrete t (s .text)) (some (s .path)) (latest t rest)
@@ -79,7 +77,7 @@ module _ (M : Calls) where
       let r = M .load (a .held) t room in
       record { held = r .held; path = cond (r .accepted) (Option·getD (latest t (a .saved)) (a .path)) (a .path); saved = a .saved }
 
-  -- a sequence of calls, from a cold start
+  -- "After any sequence of steps, saves and loads, refused ones among them"
   abbrev pub history : List Call → History
   history = foldl after begun
 
@@ -94,10 +92,11 @@ module _ (M : Calls) where
   AllOwn a [] = Unit {0}
   AllOwn a (c ∷ cs) = Own a c × AllOwn (after a c) cs
 
-  -- what the equations give from the cold start along a path
+  -- what the equations give "from the cold start, forcing by forcing, along" a path
   abbrev pub along : List (M .Forcing) → M .Run
   along = foldl (M .advance) (M .cold)
 
+  -- "the run held, state and clock, is what the equations of demand 2 give from the cold start, forcing by forcing, along its path"
   abbrev pub Demand3 : Type 0
   Demand3 = (cs : List Call) → AllOwn begun cs → history cs .held ≡ along (history cs .path)
 
