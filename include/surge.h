@@ -7,14 +7,17 @@
  * Memory. Everything that a call reads or writes is the caller's, lent for the time of the call. A call keeps no pointer,
  * allocates nothing, and holds nothing from one call to the next: a run is what the caller holds. There is no global state.
  *
- * Slices. A slice is two arguments, a pointer to its first element and the number of its elements. Any number may be passed:
- * a slice that has not the length named below is refused with 1, and only elements that are there are read or written. The
- * pointer is aligned for its type and never NULL, even where the number is 0, since the callee may take that for granted.
+ * Slices. A slice is two arguments, a pointer to its first element and the number of its elements. Any number may be passed: a
+ * slice of numbers that has not the length named below is refused with 1, a text or a line as its call says, and only elements
+ * that are there are read or written. The pointer is aligned for its type and never NULL, even where the number is 0, since the
+ * callee may take that for granted.
  *
  * Overlap. Memory that a call may write (arguments that are not `const`) overlaps no other argument. Arguments that are only
  * read may overlap each other.
  *
- * Any contents are accepted: NaN, infinities, any bytes. Where a float in or out is NaN, its payload means nothing.
+ * Any contents may be lent: NaN, infinities, any bytes. A NaN is outside every range. After a refusal slices and clock are left
+ * as found. The proofs know one NaN: where what was lent held a NaN, that the same one, sign and payload, is still there is tested
+ * and not proved. Which NaN comes back as the value of a 13, or of a forcing line that holds one, means nothing.
  *
  * Answers. The result is the number of the refusal table of document 01, and 0 where the call was accepted. Every call, refused
  * or not, writes `*place` and `*value`: which triangle, node, parameter or line was refused, and the offending value, which is
@@ -33,8 +36,10 @@
  *     10  an elevation beyond 30, depth and present elevation
  *         below 0.1, or U or V beyond 20                        place: node
  *     11  the step number is 4,294,967,295
- *     12  the held wind, the new elevation or wind beyond       place: 0; 1; 2, 3
- *     13  a new value out of range                              place: node; value: the new value
+ *     12  the held wind beyond 0.1; the new elevation beyond
+ *         30; wx_new or wy_new beyond 0.1                       place: 0; 1; 2, 3
+ *     13  a new elevation beyond 30, depth and new elevation
+ *         below 0.1, or a new U or V beyond 20                  place: node; value: z', H', U' or V'
  *     20  a line of wrong length, a wrong digit, no line feed,
  *         bytes after the end                                   place: line
  *     21  the check byte                                        place: line
@@ -66,7 +71,7 @@ extern "C" {
  */
 
 /*
- * Opens a mesh: rows 1 to 9.
+ * Opens a mesh: rows 1 to 9, in this order; 3, 4 and 5 triangle by triangle.
  *
  *   state         written when accepted: the cold state, all +0. As found after a refusal.
  *   place, value  written
@@ -85,7 +90,7 @@ uint32_t surge_open(
     double dt, double tau, double k, double f);
 
 /*
- * Steps once: rows 1 to 5 and 7 to 13.
+ * Steps once: rows 1 to 5 and 7 to 13, in this order. Row 13 looks at all new elevations first, then, node by node, at U' and V'.
  *
  *   next          4N floats, written when accepted: the next state, in the runs of `state`. As found after a refusal.
  *   work          3N floats of work room. All +0 after an accepted step or a 13, as found after any other refusal.
@@ -113,7 +118,7 @@ uint32_t surge_step(
     double elevation, double wx_new, double wy_new);
 
 /*
- * Saves a run: rows 1 to 5, 7 to 10, 12 for the held wind, and 24.
+ * Saves a run: rows 1 to 5, 7 to 10, 12 for the held wind only, and 24, in this order.
  *
  *   text          room for at least 70+73N bytes. When accepted its first 70+73N bytes are written, lines that end in a line feed with no
  *                 zero byte after them, and those past them are as found. As found after a refusal.
@@ -135,7 +140,8 @@ uint32_t surge_save(
     uint32_t step, double wx, double wy);
 
 /*
- * Loads a run from a save: rows 1 to 5, 7 to 9, 20 to 23 line by line, 12 for the head's wind, then 10 over the loaded values.
+ * Loads a run from a save. In this order: rows 1 to 5 and 7 to 9; the lines, from 0, in each 20, 21, 22, 23; bytes after the last line
+ * (20, at line N+2); 12 for the wind that the head holds (place 0); 10 over the loaded values. A missing line is of wrong length (20).
  *
  *   state         4N floats, written when accepted: the saved state. As found after a refusal. What it holds before is not looked at.
  *   place, value  written

@@ -1,4 +1,4 @@
--- Document 01: the state, and what every call on a run but a load asks: the mesh's rows, then row 10.
+-- Document 01: the state, and what a step and a save test first: the mesh's rows, then row 10.
 use Prim.Native.Nat.{ℕ}
 use mathlib.Core.List.{List}
 use lib.ListN.{length, getD}
@@ -26,7 +26,7 @@ nodeOf n h state i = record {
   v = inRun n 3 state i;
 }
 
--- | 1 | .. a slice of another length |: of the state
+-- | 1 | … a slice of another length |: of the state
 abbrev pub row1State : Mesh → List Float → Answer
 row1State m state = row (isRuns (length state) stateRuns (N m)) 1 0
 
@@ -34,6 +34,6 @@ row1State m state = row (isRuns (length state) stateRuns (N m)) 1 0
 unfoldable pub row10 : ℕ → List Float → List Float → ℕ → Answer
 row10 n h state i = row (inBounds (nodeOf n h state i)) 10 i
 
--- asked: what the call asks before the mesh's rows
+-- asked: what the call tests before the mesh's rows
 unfoldable pub runRows : Answer → Mesh → Parameters → List Float → Answer
 runRows asked m p state = meshRows (asked then row1State m state) m p then scan (row10 (N m) (m .h) state) (N m)

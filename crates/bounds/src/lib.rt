@@ -41,7 +41,7 @@ fn refused_node(n: usize, h: &[f64], state: &[f64]) -> Answer
     rows::accept()
 }
 
-// Row 10: the first node that is out of its bounds. All are asked before the place is looked for, as in row 8.
+// Row 10: the first node that is out of its bounds. All are tested before the place is looked for, as in row 8.
 fn nodes(n: usize, h: &[f64], state: &[f64]) -> Answer
     requires { ⌜ (length (now h) ≡ n) × (length (now state) ≡ stateRuns * n) ⌝ }
     ensures { λ r. ⌜ r ≡ scan (row10 n (now (h .entry)) (now (state .entry))) n ⌝ }
@@ -57,7 +57,7 @@ fn nodes(n: usize, h: &[f64], state: &[f64]) -> Answer
     }
 }
 
-// What the call asks before, the state's length, the mesh's rows, then row 10.
+// What the call tests before, the state's length, the mesh's rows, then row 10.
 pub fn run_rows(
     asked: Answer,
     x: &[i32],

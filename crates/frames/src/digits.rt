@@ -37,7 +37,7 @@ pub(crate) fn pair_at(text: &[u8], k: usize) -> Pair
     Pair { byte, right }
 }
 
-// The 36 bytes of the longest frame. Their number is fixed, so that the compiler takes many at a time.
+// The 36 bytes of the longest frame. Their number is fixed, so that the compiler vectorises the loop.
 pub(crate) fn frame(text: &[u8]) -> [u8; 36]
     requires { ⌜ 72 ≤ length (now text) ⌝ }
     ensures { λ r. ⌜ r ≡ take 36 (bytes (now (text .entry))) ⌝ }
@@ -55,7 +55,7 @@ pub struct Tally {
     pub right: bool,
 }
 
-// Digits and sum in one pass. The pairs are counted before, and the remainder is of the sum alone, so that the compiler takes many pairs at a time.
+// Digits and sum in one pass. The pairs are counted before, and the remainder is of the sum alone, so that the compiler vectorises the loop.
 pub fn tallied(text: &[u8]) -> Tally
     ensures { λ r. ⌜ r ≡ tallied (now (text .entry)) ⌝ }
 {

@@ -56,7 +56,7 @@ fn field(bytes: [u8; 36], at: usize) -> u64
     v
 }
 
-// The four fields of 8 bytes that follow kind and sequence. Where the line has them all, its digits are turned at once.
+// The four fields of 8 bytes that follow kind and sequence. Where the line has them all, its digits are decoded in one loop.
 pub fn values(line: &[u8]) -> [u64; 4]
     ensures { λ r. ⌜ r ≡ values (now (line .entry)) ⌝ }
 {

@@ -8,11 +8,12 @@ use borrow.Author.Tests.{ltb-true}
 use lib.Dec.{T, ltb, leb, leb·suc-suc, le→leb, lt→ltb}
 use lib.IntN.{ℤ, pos, negsuc, negℤ, natAbs, subℕ, _+ℤ_, _-ℤ_, _*ℤ_}
 use lib.Signed.{mag, leZ}
-use lib.Ieee.{binary64, inFloat, ofInt, toSigned}
-use lib.Ieee.Back.{positive-back, negative-back}
+use lib.Ieee.{binary64, inFloat, ofInt}
+use lib.Ieee.Back.{round-whole}
 use mir.Syntax.{Width, w32, w64}
 use mir.Val.{hbits, SFits, toZ, ofZ}
 use mir.Facts.{toZ-ofZ, sfits-widen}
+use Rattle.geometry.specs.Geometry.{Lossless}
 
 -- ---- what a width holds
 mag-le : (z : ℤ) → mag z ≤ natAbs z
@@ -93,9 +94,10 @@ unfolding inFloat
 in-float (pos n) h = le→leb n (2 ^ 53) h
 in-float (negsuc n) h = lt→ltb n (2 ^ 53) h
 
-pub lossless : (z : ℤ) → natAbs z ≤ 2 ^ 53 → toSigned 63 (ofInt binary64 z) ≡ z
-lossless (pos n) h = positive-back binary64 63 n (in-float (pos n) h) (omega arith) .1
-lossless (negsuc n) h = negative-back binary64 63 n (in-float (negsuc n) h) (omega arith) .1
+pub lossless : (z : ℤ) → natAbs z ≤ 2 ^ 53 → Lossless z
+unfolding ofInt
+lossless (pos n) h = round-whole binary64 false n h
+lossless (negsuc n) h = round-whole binary64 true (suc n) h
 
 -- ---- a difference of two 32-bit fields, as a call was handed them and handed it on
 pub gap-kept : {r : ℤ} (x y : ℤ) → mag r < 2 ^ 63 → mag x < 2 ^ 31 → mag y < 2 ^ 31 → r ≡ toZ w32 (ofZ w32 x) -ℤ toZ w32 (ofZ w32 y)

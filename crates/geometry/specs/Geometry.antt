@@ -1,9 +1,10 @@
 -- Document 01, "Triangle geometry", on single values.
 use Prim.Native.Nat.{ℕ}
-use mathlib.Core.Bool.{Bool, _&&_, cond}
+use mathlib.Core.Bool.{Bool, true, false, _&&_, cond}
 use lib.IntN.{ℤ, pos, negsuc, natAbs, _-ℤ_, _*ℤ_}
 use lib.Dec.{leb}
 use lib.Ieee.{binary64, ofInt}
+use lib.Ieee.Exact.{HasValue}
 use Rattle.lists.specs.Gather.{Three}
 use Rattle.geometry.specs.declared.Places.{Places}
 use Rattle.geometry.specs.declared.WholeSides.{WholeSides}
@@ -41,7 +42,12 @@ near v = leb (natAbs v) 100000
 unfoldable pub allNear : WholeSides → Bool
 allNear s = near (s .a1) && near (s .a2) && near (s .a3) && near (s .b1) && near (s .b2) && near (s .b3)
 
--- "all become floats without loss": a and b, and this d
+-- "all become floats without loss": the float of a whole number has its sign and its size, to the last unit
+abbrev pub Lossless : ℤ → Type 0
+Lossless (pos n) = HasValue (ofInt binary64 (pos n)) false n 1
+Lossless (negsuc n) = HasValue (ofInt binary64 (negsuc n)) true (natAbs (negsuc n)) 1
+
+-- a and b, and this d, as floats
 abbrev pub floatsWith : WholeSides → ℤ → Sides
 floatsWith s d = record {
   a1 = ofInt binary64 (s .a1);

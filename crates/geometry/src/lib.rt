@@ -1,4 +1,4 @@
-// Triangle geometry on single values, in whole numbers and as floats without loss. No slice is lent to any function here, and no public one asks anything.
+// Triangle geometry on single values, in whole numbers and as floats without loss. No slice is lent to any function here, and no public one asks anything of its caller.
 use quantities::Sides;
 ghost use mathlib.Core.Path.{_≡_};
 ghost use Prim.Native.Nat.{_≤_, _^_};

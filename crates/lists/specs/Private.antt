@@ -5,7 +5,7 @@ use lib.ListN.{getD, set, take, drop}
 use Rattle.lists.specs.Table.{table}
 use Rattle.lists.specs.Gather.{Three, Adding}
 
--- l with its first n places written anew: what a loop that writes the places 0, 1, .. in turn has made of l after n of them
+-- l with its first n places written anew: what a loop that writes the places 0, 1, … in order has made of l after n of them
 unfoldable pub upTo : {A : Type 0} → ℕ → (ℕ → A) → List A → List A
 upTo n f l = table n f ++ drop n l
 

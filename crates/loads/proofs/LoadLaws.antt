@@ -1,10 +1,11 @@
 -- The outcomes of a load: refused, and loaded; and what an accepted load leaves passes rows 10 and 12.
-use Prim.Native.Nat.{ℕ, _<_}
+use Prim.Native.Nat.{ℕ, _*_, _<_}
 use mathlib.Core.Path.{_≡_, refl, ap}
 use mathlib.Core.Bool.{Bool, true, false}
 use mathlib.Core.List.{List}
 use borrow.Author.Tests.{eqb-true, eqb-false, eq-eqb, ne-eqb}
 use lib.Dec.{eqb}
+use lib.ListN.{length}
 use lib.Ieee.{Float}
 use Rattle.lists.specs.declared.rows.Answer.{Answer}
 use Rattle.lists.proofs.ScanLaws.{row-passed, then-first, then-rest, scan-clean, same-number, other-number}
@@ -14,11 +15,11 @@ use Rattle.mesh.specs.Lent.{Mesh, N}
 use Rattle.surge.specs.Lent.{After, after, windOf}
 use Rattle.mesh.specs.Rows.{meshRows}
 use Rattle.limits.specs.Limits.{inBounds, row12Held}
-use Rattle.bounds.specs.State.{runRows}
+use Rattle.bounds.specs.State.{stateRuns, runRows}
 use Rattle.lists.specs.Scan.{accepted}
 use Rattle.lists.proofs.RunLaws.{runs-length}
-use Rattle.mesh.proofs.ShapedLaws.{mesh-asked}
-use Rattle.bounds.proofs.StateLaws.{in-bounds}
+use Rattle.mesh.proofs.ShapedLaws.{shaped-asked, mesh-parts, mesh-asked}
+use Rattle.bounds.proofs.StateLaws.{long-state, in-bounds}
 use Rattle.surge.proofs.NextLaws.{four-runs}
 use Rattle.loads.specs.Load.{clockOf, loadedNode, loadAnswer, loadedState, loadOf}
 
@@ -69,6 +70,10 @@ module _ (m : Mesh) (p : Parameters) (t : List ℕ) (state : List Float) where
 
   -- ---- what an accepted load leaves
   module _ (ok : loadAnswer m p t state .number ≡ 0) where
+    pub load-long : length state ≡ stateRuns * N m
+    unfolding loadAnswer
+    load-long = long-state m state (shaped-asked _ m (mesh-parts _ m p (then-first _ _ ok) .0))
+
     pub load-mesh : meshRows accepted m p .number ≡ 0
     unfolding loadAnswer
     load-mesh = mesh-asked _ m p (then-first _ _ ok)

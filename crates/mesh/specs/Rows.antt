@@ -16,7 +16,7 @@ use Rattle.mesh.specs.Lent.{Mesh, N, E, corner, corners}
 use Rattle.mesh.specs.Geometry.{sides}
 use Rattle.geometry.specs.Geometry.{D, allNear}
 
--- | 1 | triangle list no multiple of 3, or a slice of another length |: of the mesh's slices. Each call asks it of the others that it is lent
+-- | 1 | triangle list no multiple of 3, or a slice of another length |: of the mesh's slices. Each call tests it of the others that it is lent
 unfoldable pub row1 : Mesh → Answer
 row1 m = row (eqb (length (m .y)) (N m) && eqb (length (m .h)) (N m) && eqb (length (m .kind)) (N m) && eqb (length (m .tri) % 3) 0) 1 0
 
@@ -69,7 +69,7 @@ row7 tri i = row (isNamed tri i) 7 i
 unfoldable pub row8 : List Float → List ℕ → ℕ → Answer
 row8 h kind i = row (isNode (getD h i nan) (getD kind i 0)) 8 i
 
--- "Order: 1, 2, then triangle by triangle 3, 4, 5, then 6, 7, 8, 9, and the first place in each." asked: what the call asks before them
+-- "Order: 1, 2, then triangle by triangle 3, 4, 5, then 6, 7, 8, 9, and the first place in each." asked: what the call tests before them
 unfoldable pub shapeRows : Answer → Mesh → Answer
 shapeRows asked m = asked then row1 m then row2 m then scan (triangleRows (m .x) (m .y) (m .tri)) (E m)
 

@@ -13,7 +13,7 @@ ghost use Rattle.lists.specs.Scan.{_then_};
 ghost use Rattle.mesh.specs.Lent.{mesh};
 ghost use Rattle.mesh.specs.Rows.{row1, row2, shapeRows, nodeRows, meshRows, openRows};
 
-// What the call asks before, then rows 1 and 2.
+// What the call tests before, then rows 1 and 2.
 fn sizes(asked: Answer, x: &[i32], y: &[i32], tri: &[u16], h: &[f64], kind: &[u8]) -> Answer
     ensures { λ r. ⌜ r ≡ (asked then row1 (mesh (now (x .entry)) (now (y .entry)) (now (tri .entry)) (now (h .entry)) (now (kind .entry))) then row2 (mesh (now (x .entry)) (now (y .entry)) (now (tri .entry)) (now (h .entry)) (now (kind .entry)))) ⌝ }
 {
@@ -25,7 +25,7 @@ fn sizes(asked: Answer, x: &[i32], y: &[i32], tri: &[u16], h: &[f64], kind: &[u8
     rows::first(asked, lent)
 }
 
-// What the call asks before, then rows 1 to 5.
+// What the call tests before, then rows 1 to 5.
 fn shape_rows(asked: Answer, x: &[i32], y: &[i32], tri: &[u16], h: &[f64], kind: &[u8]) -> Answer
     ensures { λ r. ⌜ r ≡ shapeRows asked (mesh (now (x .entry)) (now (y .entry)) (now (tri .entry)) (now (h .entry)) (now (kind .entry))) ⌝ }
 {
@@ -47,7 +47,7 @@ fn node_rows(n: usize, tri: &[u16], h: &[f64], kind: &[u8], p: Parameters) -> An
     rows::first(named, rows::first(depths, limits::parameters(p)))
 }
 
-// What the call asks before, then rows 1 to 9 but for row 6, which is asked only where a mesh is opened.
+// What the call tests before, then rows 1 to 9 but for row 6, which is tested only where a mesh is opened.
 pub fn mesh_rows(
     asked: Answer,
     x: &[i32],
@@ -66,7 +66,7 @@ pub fn mesh_rows(
     node_rows(x.len(), tri, h, kind, p)
 }
 
-// What the call asks before, then rows 1 to 9.
+// What the call tests before, then rows 1 to 9.
 pub fn open_rows(
     asked: Answer,
     x: &[i32],

@@ -50,8 +50,8 @@ fn refused_depth(n: usize, h: &[f64], kind: &[u8]) -> Answer
     rows::accept()
 }
 
-// Row 8: the first node whose depth or kind is out of range. All are asked before the place is looked for: nothing leaves the loop, so that a compiler
-// can ask several nodes at once.
+// Row 8: the first node whose depth or kind is out of range. All are tested before the place is looked for: the loop has no early exit, so that a
+// compiler can vectorise it.
 pub(crate) fn depths(n: usize, h: &[f64], kind: &[u8]) -> Answer
     requires { ⌜ (length (now h) ≡ n) × (length (now kind) ≡ n) ⌝ }
     ensures { λ r. ⌜ r ≡ scan (row8 (now (h .entry)) (now (kind .entry))) n ⌝ }

@@ -88,7 +88,7 @@ fn leg_seen(its: Corners, j: usize, c: Corners) -> bool
     (a == leg(c, 0)) | (a == leg(c, 1)) | (a == leg(c, 2))
 }
 
-// Row 6: the pairs of triangles and the legs of the later one, left at the first leg seen before.
+// Row 6: a scan over the pairs of triangles and the legs of the later one, left by its label at the first leg seen before.
 pub(crate) fn legs(tri: &[u16]) -> Answer
     ensures { λ r. ⌜ r ≡ scan (row6 (now (tri .entry))) (length (now (tri .entry)) / 3) ⌝ }
 {

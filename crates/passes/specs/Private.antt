@@ -15,7 +15,7 @@ use Rattle.bounds.specs.State.{stateRuns}
 use Rattle.passes.specs.declared.velocity.Slope.{Slope}
 use Rattle.passes.specs.Equations.{Given, count, R, rise, Px, Py, U′, V′}
 
--- what was asked before anything is worked out has left
+-- what holds after the tests that come before anything is worked out
 pub record Fits (g : Given) : Type 0 where
   pub shape : Shaped (g .mesh)
   pub state : length (g .state) ≡ stateRuns * count g

@@ -1,4 +1,4 @@
--- What the passes of a step leave: by the answer of what is asked before anything is worked out, and then by that of row 13.
+-- What the passes of a step leave: by the answer of what is tested before anything is worked out, and then by that of row 13.
 use Prim.Native.Nat.{ℕ, _*_}
 use mathlib.Core.Bool.{cond, _&&_}
 use mathlib.Core.List.{List}
@@ -25,7 +25,7 @@ lentRooms next work sums = record { next = next; work = work; sums = sums }
 abbrev pub workRuns : ℕ
 workRuns = 3
 
--- | 1 | .. a slice of another length |: of these rooms
+-- | 1 | … a slice of another length |: of these rooms
 abbrev pub row1Rooms : Rooms → ℕ → Answer
 row1Rooms r n = row (isRuns (length (r .next)) stateRuns n && isRuns (length (r .work)) workRuns n && isRuns (length (r .sums)) 1 n) 1 0
 
@@ -41,13 +41,13 @@ pub record Settled : Type 0 where
 abbrev pub settled : Answer → List Float → List Float → List ℕ → Settled
 settled a next work sums = record { answer = a; rooms = lentRooms next work sums }
 
--- by the answer of what is asked first, and then by that of row 13
+-- by the answer of what is tested first, and then by that of row 13
 unfoldable pub settlesTo : Given → Rooms → Answer → Answer → Settled
 settlesTo g r first last =
     cond (eqb (first .number) 0)
     (record { answer = last; rooms = cleared (cond (eqb (last .number) 0) (nextState g) (r .next)) (count g) })
     (record { answer = first; rooms = r })
 
--- also: what else is asked, after row 10
+-- also: what else is tested, after row 10
 unfoldable pub settleOf : Given → Answer → Rooms → Settled
 settleOf g also r = settlesTo g r (runRows (row1Rooms r (count g)) (g .mesh) (g .p) (g .state) then also) (row13 g)

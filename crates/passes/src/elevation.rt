@@ -79,7 +79,7 @@ pub(crate) fn assemble(
     }
 }
 
-// z' of a node, from its sums S and R. An open node's is chosen last, so that all nodes go one way.
+// z' of a node, from its sums S and R. An open node's is chosen last, so that the loop over the nodes has no branch.
 fn rise_of(p: Parameters, kind: u8, elevation: f64, c: Node, s: u64, r: f64) -> f64
     ensures { λ z. ⌜ z ≡ riseOf p kind elevation c s r ⌝ }
 {
@@ -109,7 +109,7 @@ pub(crate) fn refused_rise(n: usize, h: &[f64], work: &[f64]) -> Answer
     rows::accept()
 }
 
-// R of every node becomes its z', and row 13 is asked of it: of all before the place is looked for, as in row 8.
+// R of every node becomes its z', and row 13 is tested on it: on all before the place is looked for, as in row 8.
 pub(crate) fn rises(
     work: &mut [f64],
     sums: &[u64],

@@ -115,7 +115,7 @@ fn work_out(
     answer
 }
 
-// What a call on a run asks, then what else was asked, then row 13 and the next state in `next`. A refusal before 13 leaves all as found; 13 leaves
+// What a call on a run tests, then what else was tested, then row 13 and the next state in `next`. A refusal before 13 leaves all as found; 13 leaves
 // the work room zero.
 pub fn settle(
     next: &mut [f64],

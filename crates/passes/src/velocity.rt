@@ -95,7 +95,7 @@ pub(crate) fn slopes(
     }
 }
 
-// U' and V' of node i, of n, from its z', Px and Py. A held land node's are chosen last, so that all nodes go one way.
+// U' and V' of node i, of n, from its z', Px and Py. A held land node's are chosen last, so that the loop over the nodes has no branch.
 fn flow_at(
     n: usize,
     h: &[f64],
@@ -162,7 +162,7 @@ pub(crate) fn refused_flow(n: usize, work: &[f64]) -> Answer
     rows::accept()
 }
 
-// Px and Py of every node become its U' and V', and row 13 is asked of them, likewise.
+// Px and Py of every node become its U' and V', and row 13 is tested on them, likewise.
 pub(crate) fn flows(
     work: &mut [f64],
     sums: &[u64],

@@ -9,7 +9,7 @@ ghost use mathlib.Core.Path.{_≡_};
 ghost use Rattle.mesh.specs.Lent.{mesh};
 ghost use Rattle.saves.specs.Save.{saveOut, saveOf};
 
-// Saves a run: what a call on a run asks, the held wind, the text room; then head, nodes and end. The place of an accepted answer is the bytes written.
+// Saves a run: what a call on a run tests, the held wind, the text room; then head, nodes and end. The place of an accepted answer is the bytes written.
 pub fn save(
     text: &mut [u8],
     state: &[f64],

@@ -1,10 +1,8 @@
 -- The sequence of calls on mesh T is as its statement says, by computation: each run in numbers, and each call worked out from the run before it.
-use native.Mathlib.Decide.{ℕ-discrete}
 use mathlib.Core.Path.{_≡_, refl, sym, ap, subst, _∙_}
 use mathlib.Core.Bool.{true, false, cond}
-use mathlib.Core.List.{List, [], _∷_, _++_, List-discrete}
-use mathlib.Core.Logic.{ite}
-use mathlib.Core.Option.{Option, none, some, Option·getD, IsSome}
+use mathlib.Core.List.{List, [], _∷_, _++_}
+use mathlib.Core.Option.{some, Option·getD, IsSome}
 use lib.IntN.{negsuc}
 use lib.ListN.{getD}
 use lib.Ieee.{Float, fin, nan}
@@ -19,7 +17,8 @@ use Rattle.frames.specs.Frames.{bits}
 use Rattle.saves.specs.Save.{saveOf, wrote}
 use Rattle.loads.specs.Load.{loadOf}
 use Rattle.history.specs.History.{Written, Call, step, save, load, Saved, History, begun, latest, after, AllOwn, along}
-use Rattle.statements.specs.Demand3.{Weather, accepts, saved}
+use Rattle.history.proofs.Demand3.{latest-here}
+use Rattle.statements.specs.Demand3.{Weather, accepts, itself, saved}
 use Rattle.statements.specs.RoundTrip.{gives}
 use Rattle.statements.specs.Examples.{Outcome, stepped, T, T-parameters, T-rooms}
 use Rattle.statements.specs.Computed.{on-T, east, north, lull, flood, text-room, text, calls, at, end, answer, ComputedHolds}
@@ -31,7 +30,7 @@ abbrev three : Float → List Float
 three v = v ∷ v ∷ v ∷ []
 
 -- after the first step: U is 1/1024
-abbrev first : Run
+abbrev pub first : Run
 first = record {
   state = three plus0 ++ three plus0 ++ three (fin false 1 (negsuc 9)) ++ three plus0;
   clock = record { step = 1; wx = fin false 1 (negsuc 5); wy = plus0 };
@@ -44,7 +43,7 @@ abbrev u-second : Float
 u-second = fin false 4397566877743685 (negsuc 60)
 
 -- after a second step with (0, 0, 0)
-abbrev lulled : Run
+abbrev pub lulled : Run
 lulled = record {
   state = three plus0 ++ z-second ++ three u-second ++ three (fin true 6786095976115901 (negsuc 67));
   clock = record { step = 2; wx = plus0; wy = plus0 };
@@ -59,18 +58,18 @@ turned = record {
 }
 
 -- a step's outcome where it is accepted: the run is taken up, and the work room is zero as it was
-abbrev went : Run → StepOut
+abbrev pub went : Run → StepOut
 went r = stepOut (record { answer = accepted; clock = r .clock }) (r .state) (T-rooms .work) (T-rooms .sums)
 
 -- ---- each call, from the run before it in numbers
-abbrev stepping : Run → Weather → StepOut
+abbrev pub stepping : Run → Weather → StepOut
 stepping r f = stepOf T T-parameters r (f .forcing) T-rooms
 
 opens : openOf T T-parameters (table 12 (λ _. decimal 7 1)) ≡ gives (on-T .cold .state) (on-T .cold .clock)
 unfolding arithmetic tables the-rows the-calls
 opens = refl
 
-to-first : stepping (on-T .cold) east ≡ went first
+pub to-first : stepping (on-T .cold) east ≡ went first
 unfolding arithmetic tables the-rows the-formulas the-equations the-calls
 to-first = refl
 
@@ -78,11 +77,11 @@ floods : stepping first flood ≡ stepOut (record { answer = refused 12 1; clock
 unfolding arithmetic tables the-rows the-calls
 floods = refl
 
-saves : saveOf T T-parameters (first .state) (first .clock) text-room .answer ≡ wrote 289
+pub saves : saveOf T T-parameters (first .state) (first .clock) text-room .answer ≡ wrote 289
 unfolding arithmetic tables the-rows the-calls
 saves = refl
 
-to-lulled : stepping first lull ≡ went lulled
+pub to-lulled : stepping first lull ≡ went lulled
 unfolding arithmetic tables the-rows the-formulas the-equations the-calls
 to-lulled = refl
 
@@ -100,21 +99,21 @@ pattern-is = refl
 
 -- ---- the histories in turn
 -- what is held after a step that leaves o
-abbrev having : History on-T → Weather → StepOut → History on-T
+abbrev pub having : History on-T → Weather → StepOut → History on-T
 having a f o =
     let ok = accepts (o .reply .answer) in
     record { held = run (cond ok (o .rooms .next) (a .held .state)) (o .reply .clock); path = cond ok (a .path ++ (f ∷ [])) (a .path); saved = a .saved }
 
-to : (c : Call on-T) {a b : History on-T} → a ≡ b → after on-T a c ≡ after on-T b c
+pub to : (c : Call on-T) {a b : History on-T} → a ≡ b → after on-T a c ≡ after on-T b c
 to c e = ap (λ (h : History on-T). after on-T h c) e
 
-abbrev stepped-first : History on-T
+abbrev pub stepped-first : History on-T
 stepped-first = record { held = first; path = east ∷ []; saved = [] }
 
 is-0 : at 0 ≡ begun on-T
 is-0 = refl
 
-is-1 : at 1 ≡ stepped-first
+pub is-1 : at 1 ≡ stepped-first
 is-1 = ap (having (begun on-T) east) to-first
 
 is-2 : at 2 ≡ stepped-first
@@ -147,18 +146,14 @@ is-4 = to (step lull T-rooms) is-3 ∙ ap (having saved-first lull) to-lulled
 
 -- the text is found among what was saved
 found : latest on-T text kept ≡ some (east ∷ [])
-found = go (List-discrete ℕ-discrete text text)
-  where
-    go : (d : Dec (text ≡ text)) → _≡_ {A = Option (List Weather)} (ite d (some (east ∷ [])) none) (some (east ∷ []))
-    go (yes e) = refl
-    go (no n) = absurd (n refl)
+found = latest-here on-T text (east ∷ []) []
 
 did-load : loadOf T T-parameters text (lulled .state) (lulled .clock) ≡ gives (first .state) (first .clock)
 did-load = rw text-is loads
 
 is-5 : at 5 ≡ saved-first
 is-5 =
-    to (load text) is-4
+    to (load text itself) is-4
     ∙ (λ i. record {
       held = run (did-load i .state) (did-load i .reply .clock);
       path = cond (accepts (did-load i .reply .answer)) (Option·getD (found i) (east ∷ lull ∷ [])) (east ∷ lull ∷ []);
@@ -197,7 +192,7 @@ computed-holds = record {
       (also (says (step flood T-rooms) is-1 (ap of-step floods) is-2)
       (also (says (save text-room) is-2 saves is-3)
       (also (says (step lull T-rooms) is-3 (ap of-step to-lulled) is-4)
-      (also (says (load text) is-4 (ap (λ (o : After). o .reply .answer) did-load) is-5)
+      (also (says (load text itself) is-4 (ap (λ (o : After). o .reply .answer) did-load) is-5)
       (also (says (step north T-rooms) is-5 (ap of-step to-turned) is-6) refl)))));
   refused-step = is-2 ∙ sym is-1;
   loaded-run = is-5 ∙ sym is-3;

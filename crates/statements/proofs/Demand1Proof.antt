@@ -11,12 +11,13 @@ use Rattle.mesh.specs.Lent.{Mesh}
 use Rattle.surge.specs.Open.{openOf}
 use Rattle.quantities.specs.declared.Forcing.{Forcing}
 use Rattle.surge.specs.Lent.{Run}
-use Rattle.surge.specs.Step.{givenOf, refusedBefore, refusedBy13, wentOn, stepOf}
+use Rattle.passes.specs.Equations.{nextState}
+use Rattle.surge.specs.Step.{givenOf, advance, refusedBefore, refusedBy13, wentOn, stepOf}
 use Rattle.passes.specs.Settle.{Rooms}
 use Rattle.saves.specs.Save.{saveOf}
 use Rattle.loads.specs.Load.{loadOf}
 use Rattle.forcings.specs.Forcings.{takenOf}
-use Rattle.statements.specs.Demand1.{Accepts, Refuses, OpenSays, StepSays, SaveSays, LoadSays, ForcingSays, OpenKeepsDemand1, StepKeepsDemand1, SaveKeepsDemand1, LoadKeepsDemand1, ForcingKeepsDemand1}
+use Rattle.statements.specs.Demand1.{Accepts, Refuses, OpenSays, StepSays, SaveSays, LoadSays, ForcingSays, Demand1}
 use Rattle.surge.proofs.NumberLaws.{not-13, only-13}
 use Rattle.surge.proofs.StepLaws.{early, late, step-cases}
 use Rattle.loads.proofs.LoadLaws.{load-cases}
@@ -35,31 +36,38 @@ module _ (m : Mesh) (p : Parameters) (s : Run) (f : Forcing) (r : Rooms) where
   refused-before : Refuses (early m p s f r) → StepSays m p s f r (refusedBefore m p s f r (early m p s f r))
   refused-before h = record {
     answer = sym (then-stop (early m p s f r) (late m p s f r) h);
-    next = λ _. refl;
-    clock = λ _. refl;
+    next-state = λ e. absurd (h e);
+    next-clock = λ e. absurd (h e);
+    same-next = λ _. refl;
+    same-clock = λ _. refl;
     untouched = λ _ _. (refl, refl);
-    by-13 = λ e. absurd (not-13 m p s f r e);
-    accepted = λ e. absurd (h e);
+    zero-after-13 = λ e. absurd (not-13 m p s f r e);
+    zero-accepted = λ e. absurd (h e);
   }
 
   refused-13 : Accepts (early m p s f r) → Refuses (late m p s f r) → StepSays m p s f r (refusedBy13 m p s f r (late m p s f r))
   refused-13 h k = record {
     answer = sym (then-next (early m p s f r) (late m p s f r) h);
-    next = λ _. refl;
-    clock = λ _. refl;
+    next-state = λ e. absurd (k e);
+    next-clock = λ e. absurd (k e);
+    same-next = λ _. refl;
+    same-clock = λ _. refl;
     untouched = λ _ n. absurd (n (only-13 (givenOf m p s f) k));
-    by-13 = λ _. (refl, refl);
-    accepted = λ e. absurd (k e);
+    zero-after-13 = λ _. (refl, refl);
+    zero-accepted = λ e. absurd (k e);
   }
 
   went-on : Accepts (early m p s f r) → Accepts (late m p s f r) → StepSays m p s f r (wentOn m p s f r (late m p s f r))
+  unfolding advance nextState
   went-on h k = record {
     answer = sym (then-next (early m p s f r) (late m p s f r) h);
-    next = λ e. absurd (e k);
-    clock = λ e. absurd (e k);
+    next-state = λ _. refl;
+    next-clock = λ _. refl;
+    same-next = λ e. absurd (e k);
+    same-clock = λ e. absurd (e k);
     untouched = λ e _. absurd (e k);
-    by-13 = λ _. (refl, refl);
-    accepted = λ _. (refl, refl);
+    zero-after-13 = λ _. (refl, refl);
+    zero-accepted = λ _. (refl, refl);
   }
 
   step-says : StepSays m p s f r (stepOf m p s f r)
@@ -72,25 +80,24 @@ save-says m p state k t = record { refused = λ h. rw (ne-eqb _ _ h) (refl, refl
 load-says : (m : Mesh) (p : Parameters) (t : List ℕ) (state : List Float) (k : Clock) → LoadSays m p t state k (loadOf m p t state k)
 load-says m p t state k =
     load-cases m p t state k (LoadSays m p t state k)
-    (λ h. record { answer = refl; refused = λ n. absurd (n h) })
-    (λ h. record { answer = refl; refused = λ _. (refl, refl) })
+    (λ h. record { answer = refl; accepted = λ _. (refl, refl); refused = λ n. absurd (n h) })
+    (λ h. record { answer = refl; accepted = λ e. absurd (h e); refused = λ _. (refl, refl) })
 
 forcing-says : (line : List ℕ) (expected : ℕ) → ForcingSays line expected (takenOf line expected)
 unfolding takenOf
-forcing-says line expected = record { answer = refl; refused = λ h. rw (ne-eqb _ _ h) }
+forcing-says line expected = record { answer = refl; accepted = λ h. rw (eq-eqb _ _ h); refused = λ h. rw (ne-eqb _ _ h) }
 
--- ---- and of every outcome that meets the contract
-pub open-keeps-demand1 : OpenKeepsDemand1
-open-keeps-demand1 κs a x v met = subst (OpenSays _ _ _) (sym met) (open-says _ _ _)
-
-pub step-keeps-demand1 : StepKeepsDemand1
-step-keeps-demand1 κs a x v met = subst (StepSays _ _ _ _ _) (sym met) (step-says _ _ _ _ _)
-
-pub save-keeps-demand1 : SaveKeepsDemand1
-save-keeps-demand1 κs a x v met = subst (SaveSays _ _ _ _ _) (sym met) (save-says _ _ _ _ _)
-
-pub load-keeps-demand1 : LoadKeepsDemand1
-load-keeps-demand1 κs a x v met = subst (LoadSays _ _ _ _ _) (sym met) (load-says _ _ _ _ _)
-
-pub forcing-keeps-demand1 : ForcingKeepsDemand1
-forcing-keeps-demand1 κs a x v met = subst (ForcingSays _ _) (sym met) (forcing-says _ _)
+-- ---- and of every outcome that meets the contract, since it is the one of the definition (Demand2)
+pub demand1 : Demand1
+demand1 = record {
+  surge·open = λ κs a x v met. subst (OpenSays _ _ _) (sym met) (open-says _ _ _);
+  surge·step = λ κs a x v met. subst (StepSays _ _ _ _ _) (sym met) (step-says _ _ _ _ _);
+  saves·save = λ κs a x v met. subst (SaveSays _ _ _ _ _) (sym met) (save-says _ _ _ _ _);
+  loads·load = λ κs a x v met. subst (LoadSays _ _ _ _ _) (sym met) (load-says _ _ _ _ _);
+  forcings·read-forcing = λ κs a x v met. subst (ForcingSays _ _) (sym met) (forcing-says _ _);
+  capi·surge-open = λ κs a x v met. subst (OpenSays _ _ _) (sym met) (open-says _ _ _);
+  capi·surge-step = λ κs a x v met. subst (StepSays _ _ _ _ _) (sym met) (step-says _ _ _ _ _);
+  capi·surge-save = λ κs a x v met. subst (SaveSays _ _ _ _ _) (sym met) (save-says _ _ _ _ _);
+  capi·surge-load = λ κs a x v met. subst (LoadSays _ _ _ _ _) (sym met) (load-says _ _ _ _ _);
+  capi·surge-read-forcing = λ κs a x v met. subst (ForcingSays _ _) (sym met) (forcing-says _ _);
+}

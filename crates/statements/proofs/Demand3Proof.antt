@@ -1,10 +1,11 @@
 -- The product's calls have the laws of a history, so demand 3 holds of it; own saves are accepted back, and every run held can be saved.
-use Prim.Native.Nat.{ℕ}
-use mathlib.Core.Path.{_≡_, sym, ap, subst, _∙_}
+use Prim.Native.Nat.{ℕ, _*_}
+use mathlib.Core.Path.{_≡_, refl, sym, ap, subst, _∙_}
 use mathlib.Core.Bool.{true, false}
 use mathlib.Core.List.{List}
 use borrow.Author.Tests.{eqb-true, eq-eqb}
 use lib.ListN.{length}
+use lib.Ieee.{Float}
 use Rattle.quantities.specs.declared.Parameters.{Parameters}
 use Rattle.mesh.specs.Lent.{Mesh, N}
 use Rattle.lists.specs.Scan.{accepted}
@@ -12,7 +13,7 @@ use Rattle.surge.specs.Lent.{Run, run, After, windOf}
 use Rattle.mesh.specs.Rows.{meshRows}
 use Rattle.surge.specs.Open.{openAnswer, openOf}
 use Rattle.limits.specs.Limits.{row12Held}
-use Rattle.bounds.specs.State.{runRows}
+use Rattle.bounds.specs.State.{stateRuns, runRows}
 use Rattle.surge.specs.Step.{StepOut, advance}
 use Rattle.passes.specs.Settle.{Rooms}
 use Rattle.surge.proofs.StepLaws.{not-last, went-on, stayed}
@@ -22,10 +23,12 @@ use Rattle.loads.specs.Storable.{StorableState, StorableClock}
 use Rattle.loads.proofs.OwnLaws.{saved-loaded}
 use Rattle.loads.proofs.StorableLaws.{clock-storable, state-storable, cold-clock-storable, cold-state-storable, next-state-storable, next-clock-storable}
 use Rattle.saves.proofs.SaveLaws.{save-accepts}
-use Rattle.loads.proofs.LoadLaws.{load-took, load-stayed, loaded-rows, loaded-wind}
-use Rattle.history.specs.History.{Call, history, Laws}
-use Rattle.history.proofs.Demand3.{demand3, held-good}
-use Rattle.statements.specs.Demand3.{Weather, accepts, coldRun, stepped, saved, loaded, surge, Demand3AtSurge, OpensCold, OwnSavesLoad, HeldRunsSave}
+use Rattle.loads.specs.Load.{clockOf, loadAnswer, loadedState, loadOf}
+use Rattle.loads.proofs.LoadLaws.{load-took, load-stayed, load-long, loaded-rows, loaded-wind}
+use Rattle.history.specs.History.{Reply, Call, history, Laws}
+use Rattle.history.proofs.Demand3.{demand3, held-good, any-save-of-a-text}
+use Rattle.statements.specs.RoundTrip.{gives}
+use Rattle.statements.specs.Demand3.{Weather, accepts, coldRun, Into, itself, other, lent, stateAfter, stepped, saved, loaded, surge, Demand3AtSurge, AnySaveAtSurge, OpensCold, OwnSavesLoad, HeldRunsSave}
 
 module _ (m : Mesh) (p : Parameters) where
   -- a run that these calls can hold: four runs of N binary64, a clock that a head can hold, and rows 10 and 12 pass (10 where the mesh passes 1 to 9)
@@ -62,26 +65,49 @@ module _ (m : Mesh) (p : Parameters) where
   abbrev left : After → Run
   left o = run (o .state) (o .reply .clock)
 
-  load-on : (r : Run) (t : List ℕ) → loaded m p r t .accepted ≡ true → Good (loaded m p r t .held)
-  load-on r t e =
-      let (ok, out) = load-took m p t (r .state) (r .clock) e in
-      subst Good (sym (ap left out))
-      (record {
-        state = state-storable (N m) (m .h) t;
-        clock = clock-storable (N m) t;
-        bounds = λ _. loaded-rows m p t (r .state) ok;
-        wind = loaded-wind m p t (r .state) ok;
-      })
+  -- a run of a text whose load was accepted is good
+  text-good : (t : List ℕ) (state : List Float) → loadAnswer m p t state .number ≡ 0 → Good (run (loadedState (N m) (m .h) t) (clockOf (N m) t))
+  text-good t state ok = record {
+    state = state-storable (N m) (m .h) t;
+    clock = clock-storable (N m) t;
+    bounds = λ _. loaded-rows m p t state ok;
+    wind = loaded-wind m p t state ok;
+  }
 
-  load-back : (r : Run) (t : List ℕ) → loaded m p r t .accepted ≡ false → loaded m p r t .held ≡ r
-  load-back r t e = ap left (load-stayed m p t (r .state) (r .clock) e)
+  -- where a load is accepted the run held is the one that it leaves, whichever slice it was lent
+  load-left : (r : Run) (t : List ℕ) (into : Into) → loaded m p r t into .accepted ≡ true
+      → loaded m p r t into .held ≡ left (loadOf m p t (lent r into) (r .clock))
+  load-left r t itself e = refl
+  load-left r t (other slice) e = rw e
+
+  load-on : (r : Run) (t : List ℕ) (into : Into) → loaded m p r t into .accepted ≡ true → Good (loaded m p r t into .held)
+  load-on r t into e =
+      let (ok, out) = load-took m p t (lent r into) (r .clock) e in
+      subst Good (sym (load-left r t into e ∙ ap left out)) (text-good t (lent r into) ok)
+
+  load-back : (r : Run) (t : List ℕ) (into : Into) → loaded m p r t into .accepted ≡ false → loaded m p r t into .held ≡ r
+  load-back r t itself e = ap left (load-stayed m p t (r .state) (r .clock) e)
+  load-back r t (other slice) e = rw e (ap (λ (o : After). run (r .state) (o .reply .clock)) (load-stayed m p t slice (r .clock) e))
 
   -- ---- a save, and a load of its text
-  own-text : (r q : Run) (text : List ℕ) → Good r → length (q .state) ≡ length (r .state) → saved m p r text .accepted ≡ true
-      → loaded m p q (saved m p r text .text) ≡ record { accepted = true; held = r }
-  own-text r q text g l e =
-      ap (λ (o : After). record { accepted = accepts (o .reply .answer); held = left o })
-      (saved-loaded m p (r .state) (r .clock) (g .state) (g .clock) (q .state) (l ∙ g .state .long) text (eqb-true _ _ e) (q .clock))
+  -- what a program takes up of what a load leaves
+  abbrev replied : Run → Into → After → Reply Run
+  replied q into o =
+      let ok = accepts (o .reply .answer) in
+      record { accepted = ok; held = run (stateAfter into ok (o .state) (q .state)) (o .reply .clock) }
+
+  own-text : (r q : Run) (text : List ℕ) (into : Into) → Good r → length (lent q into) ≡ stateRuns * N m → saved m p r text .accepted ≡ true
+      → loaded m p q (saved m p r text .text) into ≡ record { accepted = true; held = r }
+  own-text r q text into g l e =
+      ap (replied q into) (saved-loaded m p (r .state) (r .clock) (g .state) (g .clock) (lent q into) l text (eqb-true _ _ e) (q .clock)) ∙ taken-up into
+    where
+      taken-up : (b : Into) → replied q b (gives (r .state) (r .clock)) ≡ record { accepted = true; held = r }
+      taken-up itself = refl
+      taken-up (other slice) = refl
+
+  -- a slice that an accepted load was lent has 4N places
+  lent-long : (q : Run) (t : List ℕ) (into : Into) → loaded m p q t into .accepted ≡ true → length (lent q into) ≡ stateRuns * N m
+  lent-long q t into e = load-long m p t (lent q into) (load-took m p t (lent q into) (q .clock) e .0)
 
   laws : Laws (surge m p)
   laws = record {
@@ -91,7 +117,11 @@ module _ (m : Mesh) (p : Parameters) where
     step-refused = step-back;
     load-accepted = load-on;
     load-refused = load-back;
-    load-saved = λ r q text g h. own-text r q text g (h .state .long ∙ sym (g .state .long));
+    load-saved = λ r q text into g _ e ok. ap (λ (a : Reply Run). a .held) (own-text r q text into g (lent-long q _ into ok) e);
+    same-text = λ r q text room g h e k same.
+        let one = own-text r r text itself g (g .state .long) e in
+        let two = own-text q r room itself h (g .state .long) k in
+        ap (λ (a : Reply Run). a .held) (sym one ∙ ap (λ (t : List ℕ). loaded m p r t itself) same ∙ two);
   }
 
   -- every run held is such a run
@@ -103,14 +133,15 @@ module _ (m : Mesh) (p : Parameters) where
 pub demand3-at-surge : Demand3AtSurge
 demand3-at-surge m p = demand3 (surge m p) (laws m p)
 
+pub any-save-at-surge : AnySaveAtSurge
+any-save-at-surge m p = any-save-of-a-text (surge m p) (laws m p)
+
 pub opens-cold : OpensCold
 unfolding openOf
 opens-cold m p state e = rw e
 
 pub own-saves-load : OwnSavesLoad
-own-saves-load m p cs text state k e l =
-    let g = good m p cs in
-    own-text m p (history (surge m p) cs .held) (run state k) text g (l ∙ sym (g .state .long)) e
+own-saves-load m p cs text now into e l = own-text m p (history (surge m p) cs .held) now text into (good m p cs) l e
 
 pub held-runs-save : HeldRunsSave
 unfolding openOf openAnswer

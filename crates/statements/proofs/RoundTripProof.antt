@@ -1,10 +1,12 @@
 -- The round trip holds.
-use Rattle.loads.proofs.OwnLaws.{saved-loaded, same-text, loaded-again}
-use Rattle.statements.specs.RoundTrip.{RoundTrip}
+use Rattle.loads.proofs.OwnLaws as own
+use Rattle.statements.specs.RoundTrip.{SavedIsLoaded, SameTextSameRun, LoadedIsSaved}
 
-pub round-trip : RoundTrip
-round-trip = record {
-  saved-is-loaded = λ m p state k room old other s c long done. saved-loaded m p state k s c old long room done other;
-  same-text-same-run = same-text;
-  loaded-is-saved = loaded-again;
-}
+pub saved-is-loaded : SavedIsLoaded
+saved-is-loaded m p state k room old other s c long done = own.saved-loaded m p state k s c old long room done other
+
+pub same-text-same-run : SameTextSameRun
+same-text-same-run = own.same-text
+
+pub loaded-is-saved : LoadedIsSaved
+loaded-is-saved = own.loaded-again

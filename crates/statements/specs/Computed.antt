@@ -1,12 +1,12 @@
--- A sequence of calls on mesh T, worked out call by call in the words of demand 3, so that what is said there of every sequence is seen to be said of one
--- that steps, is refused a step, saves, steps, loads what it saved, and steps again.
+-- Two sequences of calls on mesh T, worked out call by call in the words of demand 3, so that what is said there of every sequence is seen to be said of one
+-- that steps, is refused a step, saves, steps, loads what it saved, and steps again; and of one that saves the same text twice, at different paths.
 use Prim.Native.Nat.{ℕ}
 use mathlib.Core.Path.{_≡_}
 use mathlib.Core.Bool.{false}
 use mathlib.Core.List.{List, [], _∷_, map}
 use lib.Dec.{T as Holds}
 use lib.ListN.{replicate, take, getD}
-use lib.Ieee.{binary64, fits, nan}
+use lib.Ieee.{Float, binary64, fits, nan}
 use lib.Ieee.Fits.{round-fits}
 use Rattle.lists.specs.declared.rows.Answer.{Answer}
 use Rattle.lists.specs.Table.{table}
@@ -18,8 +18,8 @@ use Rattle.surge.specs.Step.{stepOf}
 use Rattle.frames.specs.Frames.{bits}
 use Rattle.saves.specs.Save.{wrote, saveOf}
 use Rattle.loads.specs.Load.{loadOf}
-use Rattle.history.specs.History.{Calls, Call, step, save, load, History, begun, after, history, AllOwn, along}
-use Rattle.statements.specs.Demand3.{Weather, saved, surge}
+use Rattle.history.specs.History.{Calls, Call, step, save, load, Saved, History, begun, after, history, AllOwn, along}
+use Rattle.statements.specs.Demand3.{Weather, itself, other, lent, saved, surge}
 use Rattle.statements.specs.RoundTrip.{gives}
 use Rattle.statements.specs.Examples.{Outcome, stepped, T, T-parameters, T-rooms}
 
@@ -80,7 +80,7 @@ computed =
     ∷ line (save text-room) (stepped (wrote 289) 1)
     ∷ line (step lull T-rooms) (stepped accepted 2)
     -- back to the step number of the save
-    ∷ line (load text) (stepped accepted 1)
+    ∷ line (load text itself) (stepped accepted 1)
     ∷ line (step north T-rooms) (stepped accepted 2)
     ∷ []
 
@@ -98,7 +98,7 @@ end = history on-T calls
 abbrev pub answer : Run → Call on-T → Answer
 answer r (step f rooms) = stepOf T T-parameters r (f .forcing) rooms .reply .answer
 answer r (save room) = saveOf T T-parameters (r .state) (r .clock) room .answer
-answer r (load t) = loadOf T T-parameters t (r .state) (r .clock) .reply .answer
+answer r (load t into) = loadOf T T-parameters t (lent r into) (r .clock) .reply .answer
 
 abbrev pub answers : History on-T → List (Call on-T) → List Outcome
 answers a [] = []
@@ -123,3 +123,45 @@ pub record ComputedHolds : Type 0 where
   -- it is not the cold run: its step number is 2, and U of node 0 has the pattern 3F5F3F20A73F748A, as in example 13
   pub second : end .held .clock .step ≡ 2
   pub pattern : bits (getD (end .held .state) 6 nan) ≡ 4566437956654429322
+
+-- ---- one text, saved twice at different paths
+-- T has no open node, so that an elevation of 1 gives the run that one of 0 gives, along another path
+abbrev pub high : Weather
+high = weather 1 1 0
+
+-- the texts of the cold run, and of the run after (0, 1/64, 0)
+unfoldable pub cold-text : List ℕ
+cold-text = saved T T-parameters (on-T .cold) text-room .text
+
+unfoldable pub east-text : List ℕ
+east-text = saved T T-parameters (history on-T (step east T-rooms ∷ []) .held) text-room .text
+
+-- another slice of 4N than the state held, with sevens in it
+abbrev pub sevens : List Float
+sevens = table 12 (λ _. decimal 7 1)
+
+abbrev pub twice : List (Call on-T)
+twice =
+    save text-room
+    ∷ step east T-rooms
+    ∷ save text-room
+    -- back to the cold start, and by the other forcing to the same run
+    ∷ load cold-text (other sevens)
+    ∷ step high T-rooms
+    ∷ save text-room
+    ∷ step lull T-rooms
+    ∷ load east-text (other sevens)
+    ∷ []
+
+pub record LatestHolds : Type 0 where
+  -- demand 3's premise holds of the calls
+  pub own : AllOwn on-T (begun on-T) twice
+  -- three texts were saved, the latest first: the two after a step are the same text, at two paths
+  pub texts : map (λ (s : Saved on-T). s .text) (history on-T twice .saved) ≡ east-text ∷ east-text ∷ cold-text ∷ []
+  pub paths : map (λ (s : Saved on-T). s .path) (history on-T twice .saved) ≡ (high ∷ []) ∷ (east ∷ []) ∷ [] ∷ []
+  pub two-paths : high ≡ east → ⊥
+  -- "A load puts the path back to what it was at the latest save of that text": the path goes by it
+  pub path : history on-T twice .path ≡ high ∷ []
+  -- and the run does not: along either path it is the same
+  pub held : history on-T twice .held ≡ along on-T (high ∷ [])
+  pub same : along on-T (high ∷ []) ≡ along on-T (east ∷ [])

@@ -1,4 +1,9 @@
--- Demand 3 of the product: its calls as a program makes them, what the program holds after each, and what is proved of every sequence of them.
+-- Demand 3 of the product: "Take one run from a cold start, with an accepted mesh and parameters, both fixed, and lent room of the right sizes. After any
+-- sequence of steps, saves and loads, refused ones among them, where each text loaded was saved earlier in that sequence and not altered, the run held,
+-- state and clock, is what the equations of demand 2 give from the cold start, forcing by forcing, along its path. An accepted step adds its forcing to
+-- the path. A load puts the path back to what it was at the latest save of that text. Saves and refused calls change nothing in it."
+-- Here are the product's calls as a program makes them, and what it holds after each; the sequence, its path and the premise on a text that is loaded are
+-- history/specs/History. It is proved of every mesh and of rooms of any sizes: where one is not as the demand asks, the calls are refused.
 use Prim.Native.Nat.{ℕ, _*_, _≤_}
 use mathlib.Core.Path.{_≡_}
 use mathlib.Core.Bool.{Bool, true, cond}
@@ -8,7 +13,6 @@ use lib.ListN.{length, take}
 use lib.Ieee.{Float, binary64, fits}
 use Rattle.lists.specs.declared.rows.Answer.{Answer}
 use Rattle.quantities.specs.declared.Parameters.{Parameters}
-use Rattle.surge.specs.declared.Clock.{Clock}
 use Rattle.quantities.specs.declared.Forcing.{Forcing}
 use Rattle.mesh.specs.Lent.{Mesh, N}
 use Rattle.bounds.specs.State.{stateRuns}
@@ -19,7 +23,7 @@ use Rattle.passes.specs.Settle.{Rooms}
 use Rattle.saves.specs.Lines.{saveLength}
 use Rattle.saves.specs.Save.{saveOf}
 use Rattle.loads.specs.Load.{loadOf}
-use Rattle.history.specs.History.{Reply, Written, Calls, Call, history, Demand3}
+use Rattle.history.specs.History.{Reply, Written, Calls, Call, history, Demand3, AnySaveOfAText}
 
 -- a forcing as a program has it: each of its three numbers is a binary64
 pub record Weather : Type 0 where
@@ -36,6 +40,21 @@ accepts a = eqb (a .number) 0
 abbrev pub coldRun : Mesh → Run
 coldRun m = run (coldState (N m)) coldClock
 
+-- The slice that a load is lent: the state held itself, or another one, of any length and with anything in it.
+pub data Into : Type 0 where
+  itself : Into
+  other : List Float → Into
+
+abbrev pub lent : Run → Into → List Float
+lent r itself = r .state
+lent r (other slice) = slice
+
+-- The state held after a load that left `left` in the slice it was lent: the slice itself where it was the state held; and the other slice where the load
+-- was accepted into it, since the program swaps the two then, and the state as it was where it was refused.
+abbrev pub stateAfter : Into → Bool → List Float → List Float → List Float
+stateAfter itself ok left state = left
+stateAfter (other slice) ok left state = cond ok left state
+
 module _ (m : Mesh) (p : Parameters) where
   -- A step is lent rooms of any lengths, with anything in them. Where it accepts, the state held is what it wrote to the room for the next state; where it
   -- refuses, the state stays. The clock held is the one that it hands back.
@@ -51,11 +70,12 @@ module _ (m : Mesh) (p : Parameters) where
       let o = saveOf m p (r .state) (r .clock) text in
       record { accepted = accepts (o .answer); text = take (o .answer .place) (o .text) }
 
-  -- A load is lent the state to be replaced. The run held is that state as the load leaves it, and the clock that it hands back.
-  abbrev pub loaded : Run → List ℕ → Reply Run
-  loaded r text =
-      let o = loadOf m p text (r .state) (r .clock) in
-      record { accepted = accepts (o .reply .answer); held = run (o .state) (o .reply .clock) }
+  -- A load is lent a slice to be written, and the clock held. The run held is the state that is held after it, and the clock that it hands back.
+  abbrev pub loaded : Run → List ℕ → Into → Reply Run
+  loaded r text into =
+      let o = loadOf m p text (lent r into) (r .clock) in
+      let ok = accepts (o .reply .answer) in
+      record { accepted = ok; held = run (stateAfter into ok (o .state) (r .state)) (o .reply .clock) }
 
   -- The calls of a run on the mesh m with the parameters p. `advance` is demand 2's equations alone, and nothing of what `step` hands back.
   abbrev pub surge : Calls
@@ -64,6 +84,7 @@ module _ (m : Mesh) (p : Parameters) where
     Forcing = Weather;
     StepRoom = Rooms;
     SaveRoom = List ℕ;
+    LoadRoom = Into;
     cold = coldRun m;
     advance = λ r f. advance m p r (f .forcing);
     step = λ r f rooms. stepped r (f .forcing) rooms;
@@ -71,10 +92,13 @@ module _ (m : Mesh) (p : Parameters) where
     load = loaded;
   }
 
--- Demand 3, on every mesh and with all parameters: after any sequence of steps, saves and loads of own unaltered texts, refused calls among them, the run
--- held is what the equations give from the cold start along the path.
+-- Demand 3, on every mesh and with all parameters.
 abbrev pub Demand3AtSurge : Type 0
 Demand3AtSurge = (m : Mesh) (p : Parameters) → Demand3 (surge m p)
+
+-- "the latest save of that text": of two saves of one text, the equations give the same run along the path of either.
+abbrev pub AnySaveAtSurge : Type 0
+AnySaveAtSurge = (m : Mesh) (p : Parameters) → AnySaveOfAText (surge m p)
 
 -- That cold start is the run that opening hands back, wherever it accepts.
 abbrev pub OpensCold : Type 0
@@ -83,13 +107,13 @@ OpensCold =
     run (openOf m p state .state) (openOf m p state .reply .clock) ≡ coldRun m
 
 -- Own saves are accepted back. Whatever run is held after any sequence of calls (loads of any texts among them): where a save of it is accepted, its text,
--- loaded over any state of 4N and any clock, is accepted and gives back that run.
+-- loaded into any slice of 4N, whatever run is held then, is accepted and gives back that run.
 abbrev pub OwnSavesLoad : Type 0
 OwnSavesLoad =
-    (m : Mesh) (p : Parameters) (cs : List (Call (surge m p))) (text : List ℕ) (state : List Float) (k : Clock) →
+    (m : Mesh) (p : Parameters) (cs : List (Call (surge m p))) (text : List ℕ) (now : Run) (into : Into) →
     let r = history (surge m p) cs .held in
-    saved m p r text .accepted ≡ true → length state ≡ stateRuns * N m →
-    loaded m p (run state k) (saved m p r text .text) ≡ record { accepted = true; held = r }
+    saved m p r text .accepted ≡ true → length (lent now into) ≡ stateRuns * N m →
+    loaded m p now (saved m p r text .text) into ≡ record { accepted = true; held = r }
 
 -- Every run held can be saved. On a mesh and with parameters that opening accepts, after any sequence of calls (loads of any texts among them), a save that
 -- is lent a text room of 70+73N bytes or more is accepted.

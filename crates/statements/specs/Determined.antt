@@ -1,10 +1,134 @@
--- "That at most one outcome satisfies it is proved": said of a function's own contract, as it is read from the source.
+-- "No public function stands without a promise that determines its answer, and every lent slice afterwards, on all inputs. That at most one outcome
+-- satisfies it is proved": said of each public function's own contract, as it is read from the source. tools/promises holds the list to the source: each
+-- field is named by its function's crate and module, and speaks of that function's Kinds and Reads.
 use Prim.Native.Nat.{ℕ}
 use mathlib.Core.Path.{_≡_}
 use mathlib.Core.List.{List}
 use contract.Lifetimes.{Lfts}
 use borrow.Fn.Kinds.{PK, RK, Out, Dens, resT, endedOf}
 use denote.Triple.Clauses.{Lasts, atExit}
+use Rattle.lists.proofs.rows.accept.Kinds as lists·rows·accept-kinds
+use Rattle.lists.proofs.rows.accept.Reads as lists·rows·accept-reads
+use Rattle.lists.proofs.rows.refuse.Kinds as lists·rows·refuse-kinds
+use Rattle.lists.proofs.rows.refuse.Reads as lists·rows·refuse-reads
+use Rattle.lists.proofs.rows.tested.Kinds as lists·rows·tested-kinds
+use Rattle.lists.proofs.rows.tested.Reads as lists·rows·tested-reads
+use Rattle.lists.proofs.rows.first.Kinds as lists·rows·first-kinds
+use Rattle.lists.proofs.rows.first.Reads as lists·rows·first-reads
+use Rattle.lists.proofs.rows.in_range.Kinds as lists·rows·in-range-kinds
+use Rattle.lists.proofs.rows.in_range.Reads as lists·rows·in-range-reads
+use Rattle.lists.proofs.slices.is_runs.Kinds as lists·slices·is-runs-kinds
+use Rattle.lists.proofs.slices.is_runs.Reads as lists·slices·is-runs-reads
+use Rattle.lists.proofs.slices.clear.Kinds as lists·slices·clear-kinds
+use Rattle.lists.proofs.slices.clear.Reads as lists·slices·clear-reads
+use Rattle.lists.proofs.slices.clear_whole.Kinds as lists·slices·clear-whole-kinds
+use Rattle.lists.proofs.slices.clear_whole.Reads as lists·slices·clear-whole-reads
+use Rattle.lists.proofs.slices.copy.Kinds as lists·slices·copy-kinds
+use Rattle.lists.proofs.slices.copy.Reads as lists·slices·copy-reads
+use Rattle.equations.proofs.elevation.slope.Kinds as equations·elevation·slope-kinds
+use Rattle.equations.proofs.elevation.slope.Reads as equations·elevation·slope-reads
+use Rattle.equations.proofs.elevation.shares.Kinds as equations·elevation·shares-kinds
+use Rattle.equations.proofs.elevation.shares.Reads as equations·elevation·shares-reads
+use Rattle.equations.proofs.elevation.lumped.Kinds as equations·elevation·lumped-kinds
+use Rattle.equations.proofs.elevation.lumped.Reads as equations·elevation·lumped-reads
+use Rattle.equations.proofs.elevation.rise.Kinds as equations·elevation·rise-kinds
+use Rattle.equations.proofs.elevation.rise.Reads as equations·elevation·rise-reads
+use Rattle.equations.proofs.velocity.flow.Kinds as equations·velocity·flow-kinds
+use Rattle.equations.proofs.velocity.flow.Reads as equations·velocity·flow-reads
+use Rattle.outcomes.proofs.of_rise.Kinds as outcomes·of-rise-kinds
+use Rattle.outcomes.proofs.of_rise.Reads as outcomes·of-rise-reads
+use Rattle.outcomes.proofs.of_east.Kinds as outcomes·of-east-kinds
+use Rattle.outcomes.proofs.of_east.Reads as outcomes·of-east-reads
+use Rattle.outcomes.proofs.of_north.Kinds as outcomes·of-north-kinds
+use Rattle.outcomes.proofs.of_north.Reads as outcomes·of-north-reads
+use Rattle.outcomes.proofs.answer.Kinds as outcomes·answer-kinds
+use Rattle.outcomes.proofs.answer.Reads as outcomes·answer-reads
+use Rattle.limits.proofs.is_node.Kinds as limits·is-node-kinds
+use Rattle.limits.proofs.is_node.Reads as limits·is-node-reads
+use Rattle.limits.proofs.parameters.Kinds as limits·parameters-kinds
+use Rattle.limits.proofs.parameters.Reads as limits·parameters-reads
+use Rattle.limits.proofs.in_bounds.Kinds as limits·in-bounds-kinds
+use Rattle.limits.proofs.in_bounds.Reads as limits·in-bounds-reads
+use Rattle.limits.proofs.may_count.Kinds as limits·may-count-kinds
+use Rattle.limits.proofs.may_count.Reads as limits·may-count-reads
+use Rattle.limits.proofs.held_wind.Kinds as limits·held-wind-kinds
+use Rattle.limits.proofs.held_wind.Reads as limits·held-wind-reads
+use Rattle.limits.proofs.forcing.Kinds as limits·forcing-kinds
+use Rattle.limits.proofs.forcing.Reads as limits·forcing-reads
+use Rattle.patterns.proofs.pattern_of.Kinds as patterns·pattern-of-kinds
+use Rattle.patterns.proofs.pattern_of.Reads as patterns·pattern-of-reads
+use Rattle.patterns.proofs.float_of.Kinds as patterns·float-of-kinds
+use Rattle.patterns.proofs.float_of.Reads as patterns·float-of-reads
+use Rattle.frames.proofs.digits.tallied.Kinds as frames·digits·tallied-kinds
+use Rattle.frames.proofs.digits.tallied.Reads as frames·digits·tallied-reads
+use Rattle.frames.proofs.reading.value.Kinds as frames·reading·value-kinds
+use Rattle.frames.proofs.reading.value.Reads as frames·reading·value-reads
+use Rattle.frames.proofs.reading.float_at.Kinds as frames·reading·float-at-kinds
+use Rattle.frames.proofs.reading.float_at.Reads as frames·reading·float-at-reads
+use Rattle.frames.proofs.reading.values.Kinds as frames·reading·values-kinds
+use Rattle.frames.proofs.reading.values.Reads as frames·reading·values-reads
+use Rattle.frames.proofs.reading.fault.Kinds as frames·reading·fault-kinds
+use Rattle.frames.proofs.reading.fault.Reads as frames·reading·fault-reads
+use Rattle.lines.proofs.Line.begin.Kinds as lines·Line·begin-kinds
+use Rattle.lines.proofs.Line.begin.Reads as lines·Line·begin-reads
+use Rattle.lines.proofs.Line.append.Kinds as lines·Line·append-kinds
+use Rattle.lines.proofs.Line.append.Reads as lines·Line·append-reads
+use Rattle.lines.proofs.Line.seal.Kinds as lines·Line·seal-kinds
+use Rattle.lines.proofs.Line.seal.Reads as lines·Line·seal-reads
+use Rattle.lines.proofs.put.Kinds as lines·put-kinds
+use Rattle.lines.proofs.put.Reads as lines·put-reads
+use Rattle.geometry.proofs.sides_of.Kinds as geometry·sides-of-kinds
+use Rattle.geometry.proofs.sides_of.Reads as geometry·sides-of-reads
+use Rattle.geometry.proofs.all_near.Kinds as geometry·all-near-kinds
+use Rattle.geometry.proofs.all_near.Reads as geometry·all-near-reads
+use Rattle.geometry.proofs.twice_area.Kinds as geometry·twice-area-kinds
+use Rattle.geometry.proofs.twice_area.Reads as geometry·twice-area-reads
+use Rattle.geometry.proofs.area_of.Kinds as geometry·area-of-kinds
+use Rattle.geometry.proofs.area_of.Reads as geometry·area-of-reads
+use Rattle.geometry.proofs.sum_of.Kinds as geometry·sum-of-kinds
+use Rattle.geometry.proofs.sum_of.Reads as geometry·sum-of-reads
+use Rattle.geometry.proofs.floats_of.Kinds as geometry·floats-of-kinds
+use Rattle.geometry.proofs.floats_of.Reads as geometry·floats-of-reads
+use Rattle.mesh.proofs.reading.corners_at.Kinds as mesh·reading·corners-at-kinds
+use Rattle.mesh.proofs.reading.corners_at.Reads as mesh·reading·corners-at-reads
+use Rattle.mesh.proofs.mesh_rows.Kinds as mesh·mesh-rows-kinds
+use Rattle.mesh.proofs.mesh_rows.Reads as mesh·mesh-rows-reads
+use Rattle.mesh.proofs.open_rows.Kinds as mesh·open-rows-kinds
+use Rattle.mesh.proofs.open_rows.Reads as mesh·open-rows-reads
+use Rattle.bounds.proofs.run_rows.Kinds as bounds·run-rows-kinds
+use Rattle.bounds.proofs.run_rows.Reads as bounds·run-rows-reads
+use Rattle.passes.proofs.settle.Kinds as passes·settle-kinds
+use Rattle.passes.proofs.settle.Reads as passes·settle-reads
+use Rattle.surge.proofs.Clock.wind.Kinds as surge·Clock·wind-kinds
+use Rattle.surge.proofs.Clock.wind.Reads as surge·Clock·wind-reads
+use Rattle.surge.proofs.open.Kinds as surge·open-kinds
+use Rattle.surge.proofs.open.Reads as surge·open-reads
+use Rattle.surge.proofs.step.Kinds as surge·step-kinds
+use Rattle.surge.proofs.step.Reads as surge·step-reads
+use Rattle.forcings.proofs.read_forcing.Kinds as forcings·read-forcing-kinds
+use Rattle.forcings.proofs.read_forcing.Reads as forcings·read-forcing-reads
+use Rattle.saves.proofs.save.Kinds as saves·save-kinds
+use Rattle.saves.proofs.save.Reads as saves·save-reads
+use Rattle.loads.proofs.load.Kinds as loads·load-kinds
+use Rattle.loads.proofs.load.Reads as loads·load-reads
+use Rattle.capi.proofs.surge_open.Kinds as capi·surge-open-kinds
+use Rattle.capi.proofs.surge_open.Reads as capi·surge-open-reads
+use Rattle.capi.proofs.surge_step.Kinds as capi·surge-step-kinds
+use Rattle.capi.proofs.surge_step.Reads as capi·surge-step-reads
+use Rattle.capi.proofs.surge_save.Kinds as capi·surge-save-kinds
+use Rattle.capi.proofs.surge_save.Reads as capi·surge-save-reads
+use Rattle.capi.proofs.surge_load.Kinds as capi·surge-load-kinds
+use Rattle.capi.proofs.surge_load.Reads as capi·surge-load-reads
+use Rattle.capi.proofs.surge_read_forcing.Kinds as capi·surge-read-forcing-kinds
+use Rattle.capi.proofs.surge_read_forcing.Reads as capi·surge-read-forcing-reads
+use Rattle.forcelog.proofs.cold.Kinds as forcelog·cold-kinds
+use Rattle.forcelog.proofs.cold.Reads as forcelog·cold-reads
+use Rattle.forcelog.proofs.take.Kinds as forcelog·take-kinds
+use Rattle.forcelog.proofs.take.Reads as forcelog·take-reads
+use Rattle.forcelog.proofs.end.Kinds as forcelog·end-kinds
+use Rattle.forcelog.proofs.end.Reads as forcelog·end-reads
+use Rattle.forcelog.proofs.refusal.Kinds as forcelog·refusal-kinds
+use Rattle.forcelog.proofs.refusal.Reads as forcelog·refusal-reads
 
 -- ps and r are the kinds of a function's parameters and of its result, and Post is its `ensures`. At the same arguments a, two results
 -- x and y, with the lent slices left as v and w, that both meet the `ensures` are the same, and so are the slices.
@@ -12,3 +136,84 @@ abbrev pub Determined : {n : ℕ} (ps : List (PK n)) (r : RK n) → Out n ps r �
 Determined {n} ps r Post =
     (κs : Lfts n) (a : Dens κs ps) (x y : resT r κs .Denot) (v w : Lasts (endedOf n ps r) κs a) →
     Post κs a x (atExit (endedOf n ps r) κs a v) → Post κs a y (atExit (endedOf n ps r) κs a w) → (x ≡ y) × (v ≡ w)
+
+pub record EachDetermined : Type 0 where
+  pub lists·rows·accept-determined : Determined lists·rows·accept-kinds.ps lists·rows·accept-kinds.r lists·rows·accept-reads.Post
+  pub lists·rows·refuse-determined : Determined lists·rows·refuse-kinds.ps lists·rows·refuse-kinds.r lists·rows·refuse-reads.Post
+  pub lists·rows·tested-determined : Determined lists·rows·tested-kinds.ps lists·rows·tested-kinds.r lists·rows·tested-reads.Post
+  pub lists·rows·first-determined : Determined lists·rows·first-kinds.ps lists·rows·first-kinds.r lists·rows·first-reads.Post
+  pub lists·rows·in-range-determined : Determined lists·rows·in-range-kinds.ps lists·rows·in-range-kinds.r lists·rows·in-range-reads.Post
+  pub lists·slices·is-runs-determined : Determined lists·slices·is-runs-kinds.ps lists·slices·is-runs-kinds.r lists·slices·is-runs-reads.Post
+  pub lists·slices·clear-determined : Determined lists·slices·clear-kinds.ps lists·slices·clear-kinds.r lists·slices·clear-reads.Post
+  pub lists·slices·clear-whole-determined : Determined lists·slices·clear-whole-kinds.ps lists·slices·clear-whole-kinds.r lists·slices·clear-whole-reads.Post
+  pub lists·slices·copy-determined : Determined lists·slices·copy-kinds.ps lists·slices·copy-kinds.r lists·slices·copy-reads.Post
+  pub equations·elevation·slope-determined : Determined equations·elevation·slope-kinds.ps equations·elevation·slope-kinds.r equations·elevation·slope-reads.Post
+  pub equations·elevation·shares-determined : Determined equations·elevation·shares-kinds.ps equations·elevation·shares-kinds.r equations·elevation·shares-reads.Post
+  pub equations·elevation·lumped-determined : Determined equations·elevation·lumped-kinds.ps equations·elevation·lumped-kinds.r equations·elevation·lumped-reads.Post
+  pub equations·elevation·rise-determined : Determined equations·elevation·rise-kinds.ps equations·elevation·rise-kinds.r equations·elevation·rise-reads.Post
+  pub equations·velocity·flow-determined : Determined equations·velocity·flow-kinds.ps equations·velocity·flow-kinds.r equations·velocity·flow-reads.Post
+  pub outcomes·of-rise-determined : Determined outcomes·of-rise-kinds.ps outcomes·of-rise-kinds.r outcomes·of-rise-reads.Post
+  pub outcomes·of-east-determined : Determined outcomes·of-east-kinds.ps outcomes·of-east-kinds.r outcomes·of-east-reads.Post
+  pub outcomes·of-north-determined : Determined outcomes·of-north-kinds.ps outcomes·of-north-kinds.r outcomes·of-north-reads.Post
+  pub outcomes·answer-determined : Determined outcomes·answer-kinds.ps outcomes·answer-kinds.r outcomes·answer-reads.Post
+  pub limits·is-node-determined : Determined limits·is-node-kinds.ps limits·is-node-kinds.r limits·is-node-reads.Post
+  pub limits·parameters-determined : Determined limits·parameters-kinds.ps limits·parameters-kinds.r limits·parameters-reads.Post
+  pub limits·in-bounds-determined : Determined limits·in-bounds-kinds.ps limits·in-bounds-kinds.r limits·in-bounds-reads.Post
+  pub limits·may-count-determined : Determined limits·may-count-kinds.ps limits·may-count-kinds.r limits·may-count-reads.Post
+  pub limits·held-wind-determined : Determined limits·held-wind-kinds.ps limits·held-wind-kinds.r limits·held-wind-reads.Post
+  pub limits·forcing-determined : Determined limits·forcing-kinds.ps limits·forcing-kinds.r limits·forcing-reads.Post
+  pub patterns·pattern-of-determined : Determined patterns·pattern-of-kinds.ps patterns·pattern-of-kinds.r patterns·pattern-of-reads.Post
+  pub patterns·float-of-determined : Determined patterns·float-of-kinds.ps patterns·float-of-kinds.r patterns·float-of-reads.Post
+  pub frames·digits·tallied-determined : Determined frames·digits·tallied-kinds.ps frames·digits·tallied-kinds.r frames·digits·tallied-reads.Post
+  pub frames·reading·value-determined : Determined frames·reading·value-kinds.ps frames·reading·value-kinds.r frames·reading·value-reads.Post
+  pub frames·reading·float-at-determined : Determined frames·reading·float-at-kinds.ps frames·reading·float-at-kinds.r frames·reading·float-at-reads.Post
+  pub frames·reading·values-determined : Determined frames·reading·values-kinds.ps frames·reading·values-kinds.r frames·reading·values-reads.Post
+  pub frames·reading·fault-determined : Determined frames·reading·fault-kinds.ps frames·reading·fault-kinds.r frames·reading·fault-reads.Post
+  pub lines·Line·begin-determined : Determined lines·Line·begin-kinds.ps lines·Line·begin-kinds.r lines·Line·begin-reads.Post
+  pub lines·Line·append-determined : Determined lines·Line·append-kinds.ps lines·Line·append-kinds.r lines·Line·append-reads.Post
+  pub lines·Line·seal-determined : Determined lines·Line·seal-kinds.ps lines·Line·seal-kinds.r lines·Line·seal-reads.Post
+  pub lines·put-determined : Determined lines·put-kinds.ps lines·put-kinds.r lines·put-reads.Post
+  pub geometry·sides-of-determined : Determined geometry·sides-of-kinds.ps geometry·sides-of-kinds.r geometry·sides-of-reads.Post
+  pub geometry·all-near-determined : Determined geometry·all-near-kinds.ps geometry·all-near-kinds.r geometry·all-near-reads.Post
+  pub geometry·twice-area-determined : Determined geometry·twice-area-kinds.ps geometry·twice-area-kinds.r geometry·twice-area-reads.Post
+  pub geometry·area-of-determined : Determined geometry·area-of-kinds.ps geometry·area-of-kinds.r geometry·area-of-reads.Post
+  pub geometry·sum-of-determined : Determined geometry·sum-of-kinds.ps geometry·sum-of-kinds.r geometry·sum-of-reads.Post
+  pub geometry·floats-of-determined : Determined geometry·floats-of-kinds.ps geometry·floats-of-kinds.r geometry·floats-of-reads.Post
+  pub mesh·reading·corners-at-determined : Determined mesh·reading·corners-at-kinds.ps mesh·reading·corners-at-kinds.r mesh·reading·corners-at-reads.Post
+  pub mesh·mesh-rows-determined : Determined mesh·mesh-rows-kinds.ps mesh·mesh-rows-kinds.r mesh·mesh-rows-reads.Post
+  pub mesh·open-rows-determined : Determined mesh·open-rows-kinds.ps mesh·open-rows-kinds.r mesh·open-rows-reads.Post
+  pub bounds·run-rows-determined : Determined bounds·run-rows-kinds.ps bounds·run-rows-kinds.r bounds·run-rows-reads.Post
+  pub passes·settle-determined : Determined passes·settle-kinds.ps passes·settle-kinds.r passes·settle-reads.Post
+  pub surge·Clock·wind-determined : Determined surge·Clock·wind-kinds.ps surge·Clock·wind-kinds.r surge·Clock·wind-reads.Post
+  pub surge·open-determined : Determined surge·open-kinds.ps surge·open-kinds.r surge·open-reads.Post
+  pub surge·step-determined : Determined surge·step-kinds.ps surge·step-kinds.r surge·step-reads.Post
+  pub forcings·read-forcing-determined : Determined forcings·read-forcing-kinds.ps forcings·read-forcing-kinds.r forcings·read-forcing-reads.Post
+  pub saves·save-determined : Determined saves·save-kinds.ps saves·save-kinds.r saves·save-reads.Post
+  pub loads·load-determined : Determined loads·load-kinds.ps loads·load-kinds.r loads·load-reads.Post
+  pub capi·surge-open-determined : Determined capi·surge-open-kinds.ps capi·surge-open-kinds.r capi·surge-open-reads.Post
+  pub capi·surge-step-determined : Determined capi·surge-step-kinds.ps capi·surge-step-kinds.r capi·surge-step-reads.Post
+  pub capi·surge-save-determined : Determined capi·surge-save-kinds.ps capi·surge-save-kinds.r capi·surge-save-reads.Post
+  pub capi·surge-load-determined : Determined capi·surge-load-kinds.ps capi·surge-load-kinds.r capi·surge-load-reads.Post
+  pub capi·surge-read-forcing-determined : Determined capi·surge-read-forcing-kinds.ps capi·surge-read-forcing-kinds.r capi·surge-read-forcing-reads.Post
+  pub forcelog·cold-determined : Determined forcelog·cold-kinds.ps forcelog·cold-kinds.r forcelog·cold-reads.Post
+  pub forcelog·take-determined : Determined forcelog·take-kinds.ps forcelog·take-kinds.r forcelog·take-reads.Post
+  pub forcelog·end-determined : Determined forcelog·end-kinds.ps forcelog·end-kinds.r forcelog·end-reads.Post
+  pub forcelog·refusal-determined : Determined forcelog·refusal-kinds.ps forcelog·refusal-kinds.r forcelog·refusal-reads.Post
+
+-- "Every call takes every mesh, state, forcing and text": Asked, what a function's `requires` asks of its arguments, holds of all of them
+abbrev pub AsksNothing : {n : ℕ} (ps : List (PK n)) → ((κs : Lfts n) → Dens κs ps → Type 0) → Type 0
+AsksNothing {n} ps Asked = (κs : Lfts n) (a : Dens κs ps) → Asked κs a
+
+pub record EachCallAsksNothing : Type 0 where
+  pub surge·open-asks-nothing : AsksNothing surge·open-kinds.ps surge·open-reads.Asked
+  pub surge·step-asks-nothing : AsksNothing surge·step-kinds.ps surge·step-reads.Asked
+  pub saves·save-asks-nothing : AsksNothing saves·save-kinds.ps saves·save-reads.Asked
+  pub loads·load-asks-nothing : AsksNothing loads·load-kinds.ps loads·load-reads.Asked
+  pub forcings·read-forcing-asks-nothing : AsksNothing forcings·read-forcing-kinds.ps forcings·read-forcing-reads.Asked
+  pub forcelog·take-asks-nothing : AsksNothing forcelog·take-kinds.ps forcelog·take-reads.Asked
+  pub forcelog·end-asks-nothing : AsksNothing forcelog·end-kinds.ps forcelog·end-reads.Asked
+  pub capi·surge-open-asks-nothing : AsksNothing capi·surge-open-kinds.ps capi·surge-open-reads.Asked
+  pub capi·surge-step-asks-nothing : AsksNothing capi·surge-step-kinds.ps capi·surge-step-reads.Asked
+  pub capi·surge-save-asks-nothing : AsksNothing capi·surge-save-kinds.ps capi·surge-save-reads.Asked
+  pub capi·surge-load-asks-nothing : AsksNothing capi·surge-load-kinds.ps capi·surge-load-reads.Asked
+  pub capi·surge-read-forcing-asks-nothing : AsksNothing capi·surge-read-forcing-kinds.ps capi·surge-read-forcing-reads.Asked

@@ -47,8 +47,3 @@ LoadedIsSaved =
     let run = loadOf m p t state k in
     let save = saveOf m p (run .state) (run .reply .clock) room in
     (save .answer ≡ wrote (saveLength (N m))) × (loadOf m p (written save) old other ≡ gives (run .state) (run .reply .clock))
-
-pub record RoundTrip : Type 0 where
-  pub saved-is-loaded : SavedIsLoaded
-  pub same-text-same-run : SameTextSameRun
-  pub loaded-is-saved : LoadedIsSaved

@@ -25,7 +25,7 @@ pub record StepOut : Type 0 where
 abbrev pub stepOut : Reply → List Float → List Float → List ℕ → StepOut
 stepOut s next work sums = record { reply = s; rooms = lentRooms next work sums }
 
--- rows 11 and 12: what a step asks of the clock and the forcing
+-- rows 11 and 12: what a step tests of the clock and the forcing
 unfoldable pub clockRows : Clock → Forcing → Answer
 clockRows k f = row11 (k .step) then row12Held (windOf k) then row12New (f .elevation) (newWind f)
 
@@ -40,7 +40,7 @@ module _ (m : Mesh) (p : Parameters) (s : Run) (f : Forcing) where
 
   module _ (r : Rooms) where
     -- ---- the answer
-    -- "A step goes on with 10, 11, 12": what is asked before anything is worked out
+    -- "A step goes on with 10, 11, 12": what is tested before anything is worked out
     unfoldable pub stepRows : Answer
     stepRows = runRows (row1Rooms r (N m)) m p (s .state) then clockRows (s .clock) f
 
@@ -55,7 +55,7 @@ module _ (m : Mesh) (p : Parameters) (s : Run) (f : Forcing) where
     abbrev pub wentOn : Answer → StepOut
     wentOn a = record { reply = record { answer = a; clock = advance .clock }; rooms = cleared (advance .state) (N m) }
 
-    -- by the answer of what is asked first, and then by that of row 13
+    -- by the answer of what is tested first, and then by that of row 13
     unfoldable pub stepsTo : Answer → Answer → StepOut
     stepsTo first last = cond (eqb (first .number) 0) (cond (eqb (last .number) 0) (wentOn last) (refusedBy13 last)) (refusedBefore first)
 

@@ -86,7 +86,7 @@ pub fn open(
     }
 }
 
-// Rows 11 and 12: what a step asks of the clock and the forcing.
+// Rows 11 and 12: what a step tests of the clock and the forcing.
 fn clock_rows(clock: Clock, f: Forcing) -> Answer
     ensures { λ r. ⌜ r ≡ clockRows clock f ⌝ }
 {
@@ -98,7 +98,7 @@ fn clock_rows(clock: Clock, f: Forcing) -> Answer
     rows::first(limits::may_count(clock.step), winds)
 }
 
-// A step: what is asked of mesh, state, clock and forcing, then row 13 and the next state in `next`. A refusal leaves `next` and the clock as found,
+// A step: what is tested of mesh, state, clock and forcing, then row 13 and the next state in `next`. A refusal leaves `next` and the clock as found,
 // and the work room too unless it is 13.
 pub fn step(
     next: &mut [f64],

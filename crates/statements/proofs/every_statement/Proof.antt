@@ -1,0 +1,41 @@
+-- Each statement has its proof.
+use Rattle.statements.specs.Every.{EveryStatement}
+use Rattle.statements.proofs.every_statement.Statement.{statement}
+use Rattle.statements.proofs.every_statement.Tie as tie
+use Rattle.statements.proofs.Outcomes.{each-determined, each-call-asks-nothing}
+use Rattle.statements.proofs.Demand1Proof.{demand1}
+use Rattle.statements.proofs.Demand2Proof.{demand2, floats-without-loss}
+use Rattle.statements.proofs.RoundTripProof.{saved-is-loaded, same-text-same-run, loaded-is-saved}
+use Rattle.statements.proofs.Demand3Proof.{demand3-at-surge, any-save-at-surge, opens-cold, own-saves-load, held-runs-save}
+use Rattle.statements.proofs.ComputedProof.{computed-holds}
+use Rattle.statements.proofs.LatestProof.{latest-holds}
+use Rattle.statements.proofs.ExamplesProof.{examples-hold}
+use Rattle.statements.proofs.PrintingProof.{printing-holds}
+
+every-statement : EveryStatement
+every-statement = record {
+  determined = each-determined;
+  asks-nothing = each-call-asks-nothing;
+  demand1 = demand1;
+  demand2 = demand2;
+  floats-without-loss = floats-without-loss;
+  saved-is-loaded = saved-is-loaded;
+  same-text-same-run = same-text-same-run;
+  loaded-is-saved = loaded-is-saved;
+  demand3 = demand3-at-surge;
+  any-save = any-save-at-surge;
+  opens-cold = opens-cold;
+  own-saves-load = own-saves-load;
+  held-runs-save = held-runs-save;
+  computed = computed-holds;
+  latest = latest-holds;
+  examples = examples-hold;
+  printing = printing-holds;
+}
+
+-- src/lib.rt: what the function ensures
+returns : tie.Need-returns
+returns c = every-statement
+
+pub every-statement-spec : {M : Type 1} → statement M
+every-statement-spec = tie.close (tie.spec returns)

@@ -1,0 +1,29 @@
+-- Every statement that docs/STATEMENTS.md lists, by name: the function of src/lib.rt promises this record, and its proof has to give each field. A statement
+-- that has no proof, or that is not listed here, is no statement of the product.
+use Rattle.statements.specs.Determined.{EachDetermined, EachCallAsksNothing}
+use Rattle.statements.specs.Demand1.{Demand1}
+use Rattle.statements.specs.Demand2.{Demand2, FloatsWithoutLoss}
+use Rattle.statements.specs.RoundTrip.{SavedIsLoaded, SameTextSameRun, LoadedIsSaved}
+use Rattle.statements.specs.Demand3.{Demand3AtSurge, AnySaveAtSurge, OpensCold, OwnSavesLoad, HeldRunsSave}
+use Rattle.statements.specs.Computed.{ComputedHolds, LatestHolds}
+use Rattle.statements.specs.Examples.{ExamplesHold}
+use Rattle.statements.specs.Printing.{PrintingHolds}
+
+pub record EveryStatement : Type 0 where
+  pub determined : EachDetermined
+  pub asks-nothing : EachCallAsksNothing
+  pub demand1 : Demand1
+  pub demand2 : Demand2
+  pub floats-without-loss : FloatsWithoutLoss
+  pub saved-is-loaded : SavedIsLoaded
+  pub same-text-same-run : SameTextSameRun
+  pub loaded-is-saved : LoadedIsSaved
+  pub demand3 : Demand3AtSurge
+  pub any-save : AnySaveAtSurge
+  pub opens-cold : OpensCold
+  pub own-saves-load : OwnSavesLoad
+  pub held-runs-save : HeldRunsSave
+  pub computed : ComputedHolds
+  pub latest : LatestHolds
+  pub examples : ExamplesHold
+  pub printing : PrintingHolds
