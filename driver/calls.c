@@ -49,7 +49,7 @@ void script_end(struct script *s)
 
 static void print_answer(FILE *out, const char *call, uint32_t number, size_t place, double value)
 {
-    fprintf(out, "%s %" PRIu32 " %zu %016" PRIX64 "\n", call, number, place, pattern_of(value));
+    fprintf(out, "%s %" PRIu32 " %zu %016" PRIX64 "\n", call, number, place, pattern_of_made(value));
 }
 
 static void print_clock(const struct script *s)
@@ -99,6 +99,6 @@ void call_read(struct script *s, uint32_t expected)
     double value;
     uint32_t number = surge_read_forcing(&place, &value, &s->elevation, &s->wx_new, &s->wy_new, LENT(s, LINE), expected);
     print_answer(s->out, "read", number, place, value);
-    fprintf(s->out, "forcing %016" PRIX64 " %016" PRIX64 " %016" PRIX64 "\n", pattern_of(s->elevation), pattern_of(s->wx_new),
-            pattern_of(s->wy_new));
+    fprintf(s->out, "forcing %016" PRIX64 " %016" PRIX64 " %016" PRIX64 "\n", pattern_of_made(s->elevation), pattern_of_made(s->wx_new),
+            pattern_of_made(s->wy_new));
 }

@@ -1,6 +1,5 @@
 #include "slices.h"
 
-#include <inttypes.h>
 #include <stdlib.h>
 #include <string.h>
 
@@ -117,33 +116,54 @@ int element_of(struct word w, enum form form, union element *to)
     return is;
 }
 
-/* Writes element i as a word, and gives the word's length. */
+/* Each of these writes a word that no 0 ends, and gives its length. Slices are long and this program is run emulated, so no printf is used. */
+static size_t spell_hex(uint64_t v, size_t digits, char *to)
+{
+    size_t i;
+    for (i = digits; i > 0; i--, v /= 16)
+        to[i - 1] = "0123456789ABCDEF"[v % 16];
+    return digits;
+}
+
+static size_t spell_decimal(uint64_t v, char *to)
+{
+    size_t length = 1;
+    uint64_t rest;
+    for (rest = v / 10; rest != 0; rest /= 10)
+        length++;
+    for (rest = length; rest > 0; rest--, v /= 10)
+        to[rest - 1] = (char)('0' + v % 10);
+    return length;
+}
+
+static size_t spell_signed(int64_t v, char *to)
+{
+    if (v >= 0)
+        return spell_decimal((uint64_t)v, to);
+    *to = '-';
+    return 1 + spell_decimal((uint64_t)-v, to + 1);
+}
+
+/* The word of element i. */
 static size_t spell(const struct slice *s, size_t i, char to[WORD_ROOM])
 {
     union element e;
-    int length = 0;
     memcpy(&e, place(s, i), width(s->form));
     switch (s->form) {
     case SIGNED_32:
-        length = snprintf(to, WORD_ROOM, "%" PRId32, e.i32);
-        break;
+        return spell_signed(e.i32, to);
     case FLOAT:
-        length = snprintf(to, WORD_ROOM, "%016" PRIX64, pattern_of(e.f64));
-        break;
+        return spell_hex(pattern_of(e.f64), 16, to);
     case UNSIGNED_64:
-        length = snprintf(to, WORD_ROOM, "%" PRIu64, e.u64);
-        break;
+        return spell_decimal(e.u64, to);
     case UNSIGNED_16:
-        length = snprintf(to, WORD_ROOM, "%u", (unsigned)e.u16);
-        break;
+        return spell_decimal(e.u16, to);
     case UNSIGNED_8:
-        length = snprintf(to, WORD_ROOM, "%u", (unsigned)e.u8);
-        break;
+        return spell_decimal(e.u8, to);
     case BYTE:
-        length = snprintf(to, WORD_ROOM, "%02X", (unsigned)e.u8);
         break;
     }
-    return length < 0 ? 0 : (size_t)length;
+    return spell_hex(e.u8, 2, to);
 }
 
 void slice_print(const struct slice *s, FILE *out)
@@ -152,8 +172,9 @@ void slice_print(const struct slice *s, FILE *out)
     size_t i;
     fprintf(out, "set %s", s->name);
     for (i = 0; i < s->count; i++) {
-        spell(s, i, word);
-        fprintf(out, " %s", word);
+        size_t length = spell(s, i, word);
+        fputc(' ', out);
+        fwrite(word, 1, length, out);
     }
     fputc('\n', out);
 }

@@ -118,8 +118,11 @@ int float_of(struct word w, double *to)
 uint64_t pattern_of(double v)
 {
     uint64_t pattern;
-    if (v != v)
-        return 0x7FF8000000000000u;
     memcpy(&pattern, &v, sizeof pattern);
     return pattern;
+}
+
+uint64_t pattern_of_made(double v)
+{
+    return v != v ? 0x7FF8000000000000u : pattern_of(v);
 }

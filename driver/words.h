@@ -34,7 +34,11 @@ int float_of(struct word w, double *to);
 /* A count or a place: one that is beyond every slice stays beyond every slice. */
 int count_of(struct word w, size_t *to);
 
-/* The pattern by which a float is printed: every NaN has the same one. */
+/*
+ * The pattern by which a float is printed: its own where a slice or the clock holds it. One that a call made, the value of an answer or the
+ * forcing of a line, has the same pattern for every NaN. A double is moved in a register that keeps each pattern, a signalling NaN's too.
+ */
 uint64_t pattern_of(double v);
+uint64_t pattern_of_made(double v);
 
 #endif

@@ -1,8 +1,10 @@
 //! What generated scripts reach: how many of them get each number of the
-//! refusal table from each call, and at each condition of its row.
+//! refusal table from each call, at each condition of its row, and which NaNs a
+//! refusal left as found.
 
 mod conditions;
 mod names;
+pub(crate) mod nans;
 mod wanted;
 
 use crate::generate::generate;
@@ -58,7 +60,8 @@ impl Trail {
         if PLACED.contains(&number) {
             self.places.insert((call, number, called.answer.place));
         }
-        for condition in conditions(script, called) {
+        let kept = nans::kept(script, called);
+        for condition in conditions(script, called).into_iter().chain(kept) {
             self.conditions.insert((call, number, condition));
         }
     }

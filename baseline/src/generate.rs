@@ -5,6 +5,7 @@
 pub(crate) mod dice;
 mod faults;
 mod lines;
+mod nans;
 mod pen;
 mod runs;
 mod settings;

@@ -4,7 +4,7 @@
 
 pub(crate) mod slices;
 
-use crate::frames::read_forcing;
+use crate::frames::{pattern, read_forcing};
 use crate::mesh::open;
 use crate::records::{Answer, Clock, Forcing, Parameters};
 use crate::saves::{load, save};
@@ -250,7 +250,7 @@ impl Script {
     fn hand_back_forcing(&mut self, answer: Answer, forcing: Forcing) -> Answer {
         self.forcing = forcing;
         self.print_answer(Call::Read, answer);
-        let [elevation, wx, wy] = [forcing.elevation, forcing.wx, forcing.wy].map(word);
+        let [elevation, wx, wy] = [forcing.elevation, forcing.wx, forcing.wy].map(made_word);
         self.print(format_args!("forcing {elevation} {wx} {wy}"));
         answer
     }
@@ -287,7 +287,7 @@ impl Script {
 
     /// Prints `NAME NUMBER PLACE VALUE`.
     fn print_answer(&mut self, call: Call, answer: Answer) -> Answer {
-        let value = word(answer.value);
+        let value = made_word(answer.value);
         let (name, number, place) = (call.name(), answer.number, answer.place);
         self.print(format_args!("{name} {number} {place} {value}"));
         answer
@@ -356,11 +356,17 @@ fn slice_setting(slice: &mut dyn Slice, command: &[u8], mut words: Words) -> Opt
     words.end()
 }
 
-/// The word of a float.
+/// The word of a float, "its own pattern".
 fn word(value: f64) -> String {
     let mut word = Vec::new();
     Float::write(value, &mut word);
     String::from_utf8_lossy(&word).into_owned()
+}
+
+/// The word of a float that a call made: "there every NaN is printed as
+/// `7FF8000000000000`".
+fn made_word(value: f64) -> String {
+    word(f64::from_bits(pattern(value)))
 }
 
 /// `parameters DT TAU K F`.

@@ -1,6 +1,7 @@
 //! All that a coverage is to reach.
 
 use super::names::{lent_to, LIMITS, PARAMETER_NAMES, RUN_NAMES, SIDES};
+use super::nans::all_kept;
 use crate::script::Call;
 
 /// A call, a number of the refusal table, and a condition of it.
@@ -32,6 +33,7 @@ pub(crate) fn all_conditions() -> Vec<Reached> {
     all.extend(of(Call::Save, 0, &["room just enough", "room to spare"]));
     all.extend(text_rows());
     all.extend(line_rows());
+    all.extend(all_kept());
     all
 }
 

@@ -1,6 +1,7 @@
 //! Faults: each row of the refusal table at each of its conditions, alone or
 //! several at once, and undone again.
 
+use super::nans;
 use super::pen::Pen;
 use super::runs::make_room;
 use super::settings::{any_manner, clock, forcing, save_length, set_state, small_size, start};
@@ -38,13 +39,16 @@ pub(crate) fn faults(pen: &mut Pen) {
     }
 }
 
-/// One to three faults, and calls that meet them.
+/// One to three faults, and calls that meet them, most often with NaNs about.
 fn round(pen: &mut Pen) {
     let mut rows = String::from("echo rows");
     for _ in 0..pen.dice.one_of(&[1, 1, 1, 2, 2, 3]) {
         rows += &format!(" {}", fault(pen));
     }
     pen.say(rows);
+    if !pen.dice.one_in(4) {
+        nans::anywhere(pen);
+    }
     let mut calls = [Call::Step, Call::Save, Call::Load, Call::Open];
     pen.dice.shuffle(&mut calls);
     for call in calls {
@@ -389,6 +393,9 @@ fn nudge(pen: &mut Pen) {
             1 => low_tide(pen, node),
             _ => fast(pen, node),
         }
+    }
+    for name in ["next", "work"] {
+        nans::in_slice(pen, name);
     }
     pen.say("echo rows 13");
     pen.call(Call::Step);

@@ -12,16 +12,18 @@ use std::fmt::Display;
 /// Slices up to this length are printed, longer ones as a digest.
 const PRINTED: usize = 16;
 
-/// The slices that a call can write.
-fn written_by(call: Call) -> &'static [&'static str] {
+/// The slices that a call on a run is lent beside the mesh.
+fn rooms_of(call: Call) -> &'static [&'static str] {
     match call {
         Call::Open => &["state"],
         Call::Step => &["state", "next", "work", "sums"],
-        Call::Save => &["state", "text"],
-        Call::Load => &["state", "text"],
-        Call::Read => &["line"],
+        Call::Save | Call::Load => &["state", "text"],
+        Call::Read => &[],
     }
 }
+
+/// The slices of the mesh.
+const MESH: [&str; 5] = ["x", "y", "tri", "h", "kind"];
 
 /// A script under way.
 pub(crate) struct Pen {
@@ -71,19 +73,30 @@ impl Pen {
         self.say(line);
     }
 
-    /// Makes a call and looks at the slices it can write. The answer.
+    /// Makes a call on a run and looks at the slices that it was lent, after a
+    /// refusal at those of the mesh too. The answer.
     pub fn call(&mut self, call: Call) -> Answer {
         let answer = self.call_unseen(call);
-        for name in written_by(call) {
-            self.look(name);
+        if answer.number == 0 {
+            self.look_at(rooms_of(call));
         }
         answer
     }
 
-    /// Makes a call on a run.
+    /// Makes a call on a run and looks at what a refusal left. The answer.
     pub fn call_unseen(&mut self, call: Call) -> Answer {
-        let answer = self.say(call.name());
-        answer.unwrap_or(Answer::accepted(0))
+        let answer = self.say(call.name()).unwrap_or(Answer::accepted(0));
+        if answer.number != 0 {
+            self.look_at(rooms_of(call));
+            self.look_at(&MESH);
+        }
+        answer
+    }
+
+    fn look_at(&mut self, names: &[&str]) {
+        for name in names {
+            self.look(name);
+        }
     }
 
     /// Prints a slice, or its digest where it is long.
@@ -237,7 +250,7 @@ impl Pen {
         }
     }
 
-    /// The words of a slice's elements, one NaN for all.
+    /// The words of a slice's elements.
     pub fn words(&mut self, name: &str) -> Vec<String> {
         let mut words = Vec::new();
         if let Some(slice) = self.script.slice(name.as_bytes()) {

@@ -3,6 +3,7 @@
 
 use super::dice::Dice;
 use super::lines::{damaged, frame_of, line_of, put_field};
+use super::nans;
 use super::pen::{byte_word, Pen};
 use super::runs::make_room;
 use super::settings::{any_manner, save_length, small_size, start};
@@ -22,7 +23,12 @@ pub(crate) fn texts(pen: &mut Pen) {
     for _ in 0..5 + pen.dice.below(8) {
         let right = pen.script.text.0.clone();
         damage(pen);
+        if pen.dice.one_in(2) {
+            nans::in_slice(pen, "state");
+            nans::in_clock(pen);
+        }
         pen.call(Call::Load);
+        pen.mend();
         pen.become_bytes("text", &right);
     }
 }

@@ -59,18 +59,26 @@ pub(crate) fn word(value: f64) -> String {
     format!("{:016X}", value.to_bits())
 }
 
-/// NaNs, quiet and signalling, of either sign.
-const NANS: [u64; 6] = [
+/// NaNs, quiet and signalling, of either sign: the first and the last of each,
+/// and one between. The first quiet ones are those that processors make.
+const NANS: [u64; 10] = [
     0x7FF8_0000_0000_0000,
     0xFFF8_0000_0000_0000,
+    0x7FF8_DEAD_BEEF_0001,
+    0x7FFF_FFFF_FFFF_FFFF,
+    0xFFFF_FFFF_FFFF_FFFF,
     0x7FF0_0000_0000_0001,
     0xFFF0_0000_0000_0001,
-    0x7FFF_FFFF_FFFF_FFFF,
-    0x7FF8_DEAD_BEEF_0001,
+    0x7FF4_DEAD_BEEF_0001,
+    0x7FF7_FFFF_FFFF_FFFF,
+    0xFFF7_FFFF_FFFF_FFFF,
 ];
 
+/// A NaN of one of these patterns, or of any.
 pub(crate) fn nan(dice: &mut Dice) -> f64 {
-    f64::from_bits(dice.one_of(&NANS))
+    let any = dice.bits() | f64::INFINITY.to_bits() | 1;
+    let known = dice.one_of(&NANS);
+    f64::from_bits(dice.one_of(&[known, any]))
 }
 
 /// Any pattern at all: what a lent room may hold.

@@ -1,6 +1,6 @@
 //! The slices a script holds, and how their elements are written as words.
 
-use crate::frames::{byte_of, pattern, two_digits};
+use crate::frames::{byte_of, two_digits};
 use std::fmt::Display;
 use std::io::Write;
 use std::marker::PhantomData;
@@ -76,9 +76,9 @@ impl Form for Float {
         Some(f64::from_bits(bits))
     }
 
-    /// "every NaN as `7FF8000000000000`: the documents know one NaN".
+    /// "its own pattern": a NaN's too.
     fn write(element: f64, room: &mut Vec<u8>) {
-        for byte in pattern(element).to_be_bytes() {
+        for byte in element.to_bits().to_be_bytes() {
             room.extend(two_digits(byte));
         }
     }

@@ -1,9 +1,10 @@
 //! The generator: the same text for the same seed, scripts without a bad line,
 //! and the parts it is made of.
 
+use crate::coverage::nans::sort_of;
 use crate::generate::dice::Dice;
 use crate::generate::generate;
-use crate::generate::values::{lowest_elevation, COLUMN};
+use crate::generate::values::{lowest_elevation, nan, COLUMN};
 use crate::generate::worlds::{full_grid, world, Manner, World};
 use crate::script::run;
 use crate::{coverage, open, printing::P};
@@ -49,7 +50,7 @@ fn the_scripts_of_seed_1_are_these() {
             hash = (hash ^ u64::from(byte)).wrapping_mul(0x0000_0100_0000_01B3);
         }
     }
-    assert_eq!(format!("{hash:016X}"), "E14439BE3FD8591C");
+    assert_eq!(format!("{hash:016X}"), "262C1AAC563151F5");
 }
 
 #[test]
@@ -76,6 +77,40 @@ fn the_lowest_elevation_is_one_bit_from_too_little_water() {
         let z = lowest_elevation(h);
         assert!(h + z >= COLUMN && h + z.next_down() < COLUMN, "{h} {z}");
     }
+}
+
+#[test]
+fn nans_of_every_sort_are_drawn() {
+    let mut dice = Dice::of(6, 0);
+    let nans: Vec<f64> = (0..200).map(|_| nan(&mut dice)).collect();
+    assert!(nans.iter().all(|nan| nan.is_nan()));
+    for sort in ["a quiet NaN", "a signalling NaN"] {
+        for negative in [false, true] {
+            let mut patterns: Vec<u64> = nans
+                .iter()
+                .filter(|nan| sort_of(**nan) == Some(sort) && nan.is_sign_negative() == negative)
+                .map(|nan| nan.to_bits())
+                .collect();
+            patterns.sort_unstable();
+            patterns.dedup();
+            assert!(patterns.len() > 10, "{sort} {negative}");
+        }
+    }
+}
+
+#[test]
+fn the_nan_that_is_made_anew_is_of_no_sort() {
+    for bits in [0x7FF8_0000_0000_0000, 0x7FF0_0000_0000_0000, 0, 1] {
+        assert_eq!(sort_of(f64::from_bits(bits)), None);
+    }
+    let quiet = [0xFFF8_0000_0000_0000, 0x7FF8_0000_0000_0001];
+    assert!(quiet
+        .iter()
+        .all(|&bits| sort_of(f64::from_bits(bits)) == Some("a quiet NaN")));
+    let signalling = [0x7FF0_0000_0000_0001, 0xFFF7_FFFF_FFFF_FFFF];
+    assert!(signalling
+        .iter()
+        .all(|&bits| sort_of(f64::from_bits(bits)) == Some("a signalling NaN")));
 }
 
 /// The answer of opening a mesh.

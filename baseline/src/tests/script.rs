@@ -71,14 +71,143 @@ fn elements_at_the_ends_of_their_forms() {
     }
 }
 
+/// NaNs, quiet and signalling, of both signs.
+const NANS: [&str; 6] = [
+    "7FF8000000000000",
+    "FFF8000000000000",
+    "7FF8DEADBEEF0001",
+    "FFFFFFFFFFFFFFFF",
+    "7FF0000000000001",
+    "FFF7FFFFFFFFFFFF",
+];
+
 #[test]
-fn every_nan_is_printed_as_one() {
-    for pattern in ["7FF0000000000001", "FFFFFFFFFFFFFFFF", "7FF8DEADBEEF0001"] {
-        let script = format!("set work {pattern} {ONE}\nprint work\n");
-        printed_as(&script, &format!("set work 7FF8000000000000 {ONE}\n"));
-        let script = format!("clock 4 {pattern} {ONE}\nstep\n");
-        let expected = format!("step 2 0 {ZERO}\nclock 4 7FF8000000000000 {ONE}\n");
-        printed_as(&script, &expected);
+fn a_nan_that_is_held_keeps_its_pattern() {
+    for nan in NANS {
+        for name in ["h", "state", "next", "work"] {
+            let set = format!("set {name} {nan} {ONE}\n");
+            printed_as(&format!("{set}print {name}\n"), &set);
+            let made = format!("fill {name} 2 {ONE}\nput {name} 0 {nan}\nprint {name}\n");
+            printed_as(&made, &set);
+        }
+        let swapped = format!("set state {nan}\nswap\nprint next\n");
+        printed_as(&swapped, &format!("set next {nan}\n"));
+    }
+}
+
+#[test]
+fn the_digests_of_two_nans_differ() {
+    let mut digests: Vec<String> = NANS
+        .iter()
+        .map(|nan| prints(&format!("set work {nan}\ndigest work\n")))
+        .collect();
+    digests.sort_unstable();
+    digests.dedup();
+    assert_eq!(digests.len(), NANS.len());
+}
+
+/// State, next state, work room and clock hold nothing but a NaN.
+#[test]
+fn rows_1_to_10_leave_each_nan_as_found() {
+    let faults = [
+        ("keep sums 2", 1),
+        ("set tri", 2),
+        ("put tri 2 3", 3),
+        ("put x 1 100001", 4),
+        ("put x 1 0", 5),
+        ("put kind 0 3", 8),
+        (
+            "parameters 0000000000000000 0000000000000000 0000000000000000 0000000000000000",
+            9,
+        ),
+        ("fill kind 3 0", 10),
+    ];
+    for nan in NANS {
+        for (fault, row) in faults {
+            let rooms = format!("fill state 12 {nan}\nfill next 12 {nan}\nfill work 9 {nan}\n");
+            let clock = format!("clock 7 {nan} {nan}\n");
+            let printed = prints(&format!(
+                "{MESH_T}{rooms}{fault}\n{clock}step\nprint state\nprint next\nprint work\n"
+            ));
+            let filled = |name: &str, count: usize| {
+                format!("set {name}{}\n", [" ", nan].concat().repeat(count))
+            };
+            let left = filled("state", 12) + &filled("next", 12) + &filled("work", 9);
+            assert_eq!(
+                printed,
+                format!("step {row} 0 {ZERO}\n{clock}{left}"),
+                "{fault}"
+            );
+        }
+    }
+}
+
+#[test]
+fn rows_11_to_13_leave_each_nan_as_found() {
+    for nan in NANS {
+        let rooms = format!("open\nfill next 12 {nan}\nput work 3 {nan}\n");
+        let after = |setting: &str| {
+            let printed = prints(&format!(
+                "{MESH_T}{rooms}{setting}\nstep\nprint next\nprint work\n"
+            ));
+            printed
+                .lines()
+                .skip(2)
+                .map(String::from)
+                .collect::<Vec<_>>()
+        };
+        let next = format!("set next{}", [" ", nan].concat().repeat(12));
+        let found = format!(
+            "set work {} {nan} {}",
+            [ONE; 3].join(" "),
+            [ONE; 5].join(" ")
+        );
+        for (setting, row) in [
+            (format!("clock 4294967295 {nan} {ZERO}"), 11),
+            (format!("clock 5 {ZERO} {nan}"), 12),
+        ] {
+            let expected = [
+                format!("step {row} 0 {ZERO}"),
+                setting.clone(),
+                next.clone(),
+                found.clone(),
+            ];
+            assert_eq!(after(&setting), expected);
+        }
+        let low = format!("put kind 1 1\nforcing C01F99999999999A {ZERO} {ZERO}");
+        let printed = after(&low);
+        assert!(printed[0].starts_with("step 13 1 "));
+        assert_eq!(
+            printed[2..],
+            [next, format!("set work {}", [ZERO; 9].join(" "))]
+        );
+    }
+}
+
+#[test]
+fn a_refused_load_leaves_each_nan_as_found() {
+    for nan in NANS {
+        let clock = format!("clock 7 {nan} {nan}\n");
+        let filled = format!("set state{}\n", [" ", nan].concat().repeat(12));
+        let script = format!("{MESH_T}{filled}{clock}load\nprint state\n");
+        printed_as(&script, &format!("load 20 0 {ZERO}\n{clock}{filled}"));
+    }
+}
+
+/// "there every NaN is printed as `7FF8000000000000`": the forcing of a line is
+/// made by the call.
+#[test]
+fn a_nan_of_a_line_is_printed_as_one() {
+    for nan in NANS {
+        let bits = u64::from_str_radix(nan, 16).unwrap();
+        let line = super::forcing_line(7, [f64::from_bits(bits), 1.0, f64::from_bits(bits)]);
+        let bytes: Vec<String> = line.iter().map(|byte| format!("{byte:02X}")).collect();
+        let script = format!("set line {}\nread 7\n", bytes.join(" "));
+        let one = "7FF8000000000000";
+        printed_as(
+            &script,
+            &format!("read 0 0 {ZERO}\nforcing {one} {ONE} {one}\n"),
+        );
     }
 }
 
@@ -142,7 +271,7 @@ fn digests_are_fnv_1a() {
         "digest text 2 4B42D0EE19AF7302\n",
     );
     let script = "set h FFF0000000000001\ndigest h\n";
-    printed_as(script, "digest h 1 111B06EBA583AAAC\n");
+    printed_as(script, "digest h 1 E1876162E02C496E\n");
 }
 
 #[test]

@@ -1,14 +1,27 @@
 // Example 13 of document 01: two steps on mesh T from a cold start. Each number of the state after each step is written as its binary64
-// pattern, one a line, and last the clock's step number. The file `stdout` beside src/ holds what the independent second program gives.
+// pattern, one a line, and last the clock's step number. The file `stdout` beside src/ holds what the independent second program gives. Standard
+// error says of a write that fails why it did.
 use libc::STDOUT_FILENO;
 use quantities::Forcing;
 use quantities::Parameters;
 
-fn print_state(state: &[f64]) {
+// Each of these says whether all was written.
+fn print_number(number: f64) -> bool {
+    io::print_hex(STDOUT_FILENO, patterns::pattern_of(number), 16)
+        && io::write_all(STDOUT_FILENO, b"\n")
+}
+
+fn print_state(state: &[f64]) -> bool {
     for i in 0..state.len() {
-        io::print_hex(STDOUT_FILENO, patterns::pattern_of(state[i]), 16);
-        io::write_all(STDOUT_FILENO, b"\n");
+        if !print_number(state[i]) {
+            return false;
+        }
     }
+    true
+}
+
+fn print_step(step: u32) -> bool {
+    io::print_decimal(STDOUT_FILENO, step as u64) && io::write_all(STDOUT_FILENO, b"\n")
 }
 
 fn main() {
@@ -47,7 +60,6 @@ fn main() {
         opened.clock,
         wind,
     );
-    print_state(&next);
     let calm = Forcing {
         elevation: 0.0,
         wx: 0.0,
@@ -67,7 +79,7 @@ fn main() {
         one.clock,
         calm,
     );
-    print_state(&state);
-    io::print_decimal(STDOUT_FILENO, two.clock.step as u64);
-    io::write_all(STDOUT_FILENO, b"\n");
+    if !(print_state(&next) && print_state(&state) && print_step(two.clock.step)) {
+        os::fail(b"example13: cannot write standard output");
+    }
 }

@@ -5,13 +5,13 @@ use Rattle.example13.proofs.print_state.Statement.{statement}
 use Rattle.example13.proofs.print_state.Tie as tie
 
 abbrev Inv-loop : tie.InvT-loop
-Inv-loop state i₀ t3 i-end i = i ≤ i-end
+Inv-loop state i₀ i-end i = i ≤ i-end
 
 abbrev μ-loop : tie.MeasureT-loop
-μ-loop state i₀ t3 i-end i = i-end - i
+μ-loop state i₀ i-end i = i-end - i
 
 pub print-state-spec : {M : Type 1} → statement M
 print-state-spec =
     tie.close
-    (tie.spec Inv-loop μ-loop (λ c. omega arith) (λ c. search needs) (λ c. search needs) (λ c κs. search needs) (λ c κs. search needs)
-    (λ c. search needs) (λ c κs. search needs) (λ c. omega arith) (λ c. omega arith) (λ c. omega arith) (λ c. search needs))
+    (tie.spec Inv-loop μ-loop (λ c. omega arith) (λ c. search needs) (λ c. search needs) (λ c κs. search needs) (λ c. search needs) (λ c. omega arith)
+    (λ c. omega arith) (λ c. omega arith) (λ c. search needs))

@@ -16,23 +16,23 @@ loop-holds : tie.Need-loop-holds Inv-loop μ-loop
 loop-holds c = rw (c .cold .ensures) (cold-lines, cold-savable)
 
 save-text-requires : tie.Need-save-text-requires Inv-loop μ-loop
-save-text-requires c κs = c .before .before .before .before .loop .inv .1
+save-text-requires c κs = c .before .before .before .before .before .loop .inv .1
 
 loop-less : tie.Need-loop-less Inv-loop μ-loop
 loop-less c =
     let p = c .before .before .before .before in
-    let t = taken-on _ _ _ (p .before .before .before .before .before .before .loop .inv .1) (p .take .ensures) (c .before .if2 .left) in
+    let t = taken-on _ _ _ (p .before .before .before .before .before .before .before .loop .inv .1) (p .take .ensures) (c .before .if3 .left) in
     omega arith
 
 loop-again : tie.Need-loop-again Inv-loop μ-loop
 loop-again c =
     let p = c .before .before .before .before in
-    let t = taken-on _ _ _ (p .before .before .before .before .before .before .loop .inv .1) (p .take .ensures) (c .before .if2 .left) in
+    let t = taken-on _ _ _ (p .before .before .before .before .before .before .before .loop .inv .1) (p .take .ensures) (c .before .if3 .left) in
     (omega arith, t .2)
 
 pub main-spec : {M : Type 1} → statement M
 main-spec =
     tie.close
-    (tie.spec Inv-loop μ-loop (λ c κs. search needs) loop-holds (λ c. search needs) (λ c κs. search needs) save-text-requires (λ c. search needs)
-    (λ c κs. search needs) (λ c. search needs) (λ c. search needs) (λ c. search needs) (λ c κs. search needs) (λ c κs. search needs)
-    (λ c. search needs) loop-less loop-again)
+    (tie.spec Inv-loop μ-loop (λ c κs. search needs) loop-holds (λ c. search needs) (λ c κs. search needs) (λ c κs. search needs) (λ c. search needs)
+    save-text-requires (λ c. search needs) (λ c κs. search needs) (λ c. search needs) (λ c. search needs) (λ c. search needs) (λ c κs. search needs)
+    (λ c κs. search needs) (λ c. search needs) loop-less loop-again)

@@ -1,0 +1,86 @@
+//! NaNs that a refusal leaves as found, by where they stand. The product's
+//! proofs know one NaN, so that only a run shows a pattern that is kept.
+
+use super::wanted::Reached;
+use crate::script::{Call, Called, Script};
+
+/// The sorts of NaN. `7FF8000000000000` is of neither: a NaN that is made anew
+/// may have that pattern too.
+const SORTS: [&str; 2] = ["a quiet NaN", "a signalling NaN"];
+
+/// The bit of a NaN's pattern that makes it a quiet one.
+const QUIET: u64 = 0x0008_0000_0000_0000;
+
+/// The rows that refuse a call on a run.
+fn rows(call: Call) -> &'static [u32] {
+    match call {
+        Call::Open => &[1, 2, 3, 4, 5, 6, 7, 8, 9],
+        Call::Step => &[1, 2, 3, 4, 5, 7, 8, 9, 10, 11, 12, 13],
+        Call::Save => &[1, 2, 3, 4, 5, 7, 8, 9, 10, 12, 24],
+        Call::Load => &[1, 2, 3, 4, 5, 7, 8, 9, 10, 12, 20, 21, 22, 23],
+        Call::Read => &[],
+    }
+}
+
+/// Where a NaN may stand that a refusal leaves as found: where an earlier row
+/// refuses one, there is none.
+fn places(call: Call, row: u32) -> Vec<&'static str> {
+    let mut places = match (call, row) {
+        (Call::Open, 1..=9) | (Call::Save, 1..=10) => vec!["state"],
+        (Call::Load, 1..) => vec!["state", "clock"],
+        (Call::Step, 1..=10) => vec!["state", "next", "work", "clock"],
+        (Call::Step, 11 | 12) => vec!["next", "work", "clock"],
+        (Call::Step, 13) => vec!["next"],
+        _ => Vec::new(),
+    };
+    if (1..=8).contains(&row) {
+        places.push("h");
+    }
+    places
+}
+
+fn condition(place: &str, sort: &str) -> String {
+    format!("{place} keeps {sort}")
+}
+
+/// The NaNs that a refused call left.
+pub(crate) fn kept(script: &Script, called: Called) -> Vec<String> {
+    let mut met = Vec::new();
+    for place in places(called.call, called.answer.number) {
+        let floats = match place {
+            "state" => &script.state.0,
+            "next" => &script.next.0,
+            "work" => &script.work.0,
+            "h" => &script.h.0,
+            _ => &vec![script.clock.wx, script.clock.wy],
+        };
+        for sort in SORTS {
+            if floats.iter().any(|&float| sort_of(float) == Some(sort)) {
+                met.push(condition(place, sort));
+            }
+        }
+    }
+    met
+}
+
+/// The sort of a float, where it is a NaN that is told apart.
+pub(crate) fn sort_of(float: f64) -> Option<&'static str> {
+    let bits = float.to_bits();
+    if !float.is_nan() || bits == f64::INFINITY.to_bits() | QUIET {
+        return None;
+    }
+    Some(SORTS[usize::from(bits & QUIET == 0)])
+}
+
+/// Every NaN that must be seen to be kept.
+pub(crate) fn all_kept() -> Vec<Reached> {
+    let mut all = Vec::new();
+    for call in Call::ALL {
+        for &row in rows(call) {
+            for place in places(call, row) {
+                all.extend(SORTS.map(|sort| (call, row, condition(place, sort))));
+            }
+        }
+    }
+    all
+}
