@@ -43,6 +43,7 @@ fn read_from(piece: &mut [u8], from: usize) -> Got
     }
 }
 
+// Reads until the piece is full, the input ends or a read fails.
 fn read_piece(piece: &mut [u8]) -> Got
     ensures { λ r. ⌜ Counts (r .len) (now (piece .exit)) ⌝ }
 {
