@@ -1,12 +1,12 @@
 -- Every statement that docs/STATEMENTS.md lists, by name: the function of src/lib.rt promises this record, and its proof has to give each field. A statement
 -- that has no proof, or that is not listed here, is no statement of the product.
 use Rattle.statements.specs.Determined.{EachDetermined, EachCallAsksNothing}
-use Rattle.statements.specs.Demand1.{Demand1}
-use Rattle.statements.specs.Demand2.{Demand2, FloatsWithoutLoss}
-use Rattle.statements.specs.RoundTrip.{SavedIsLoaded, SameTextSameRun, LoadedIsSaved}
-use Rattle.statements.specs.Demand3.{Demand3AtSurge, AnySaveAtSurge, OpensCold, OwnSavesLoad, HeldRunsSave}
-use Rattle.statements.specs.Computed.{ComputedHolds, LatestHolds}
-use Rattle.statements.specs.Examples.{ExamplesHold}
+use Rattle.demands.specs.Demand1.{Demand1}
+use Rattle.demands.specs.Demand2.{Demand2, FloatsWithoutLoss}
+use Rattle.demands.specs.RoundTrip.{SavedIsLoaded, SameTextSameRun, LoadedIsSaved}
+use Rattle.demands.specs.Demand3.{Demand3AtSurge, AnySaveAtSurge, OpensCold, OwnSavesLoad, HeldRunsSave}
+use Rattle.worked.specs.Computed.{ComputedHolds, LatestHolds}
+use Rattle.worked.specs.Examples.{ExamplesHold}
 use Rattle.statements.specs.Printing.{PrintingHolds}
 
 pub record EveryStatement : Type 0 where

@@ -1,10 +1,3 @@
 pub mod Determined
-pub mod Contracts
-pub mod Examples
-pub mod Demand1
-pub mod Demand2
-pub mod RoundTrip
-pub mod Demand3
-pub mod Computed
 pub mod Printing
 pub mod Every

@@ -7,7 +7,7 @@ use Rattle.forcelog.specs.Log.{coldLog}
 use Rattle.forcelog.specs.Printed.{printed, taking, pieces}
 use Rattle.forcelog.specs.Empty.{fiveLines}
 use Rattle.forcelog.specs.MeshT as M
-use Rattle.statements.specs.Examples.{T, T-parameters}
+use Rattle.worked.specs.Examples.{T, T-parameters}
 
 pub record PrintingHolds : Type 0 where
   -- The mesh and the parameters that it holds are those of the examples.

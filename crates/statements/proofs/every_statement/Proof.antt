@@ -3,13 +3,13 @@ use Rattle.statements.specs.Every.{EveryStatement}
 use Rattle.statements.proofs.every_statement.Statement.{statement}
 use Rattle.statements.proofs.every_statement.Tie as tie
 use Rattle.statements.proofs.Outcomes.{each-determined, each-call-asks-nothing}
-use Rattle.statements.proofs.Demand1Proof.{demand1}
-use Rattle.statements.proofs.Demand2Proof.{demand2, floats-without-loss}
-use Rattle.statements.proofs.RoundTripProof.{saved-is-loaded, same-text-same-run, loaded-is-saved}
-use Rattle.statements.proofs.Demand3Proof.{demand3-at-surge, any-save-at-surge, opens-cold, own-saves-load, held-runs-save}
-use Rattle.statements.proofs.ComputedProof.{computed-holds}
-use Rattle.statements.proofs.LatestProof.{latest-holds}
-use Rattle.statements.proofs.ExamplesProof.{examples-hold}
+use Rattle.demands.proofs.Demand1Proof.{demand1}
+use Rattle.demands.proofs.Demand2Proof.{demand2, floats-without-loss}
+use Rattle.demands.proofs.RoundTripProof.{saved-is-loaded, same-text-same-run, loaded-is-saved}
+use Rattle.demands.proofs.Demand3Proof.{demand3-at-surge, any-save-at-surge, opens-cold, own-saves-load, held-runs-save}
+use Rattle.worked.proofs.ComputedProof.{computed-holds}
+use Rattle.worked.proofs.LatestProof.{latest-holds}
+use Rattle.worked.proofs.ExamplesProof.{examples-hold}
 use Rattle.statements.proofs.PrintingProof.{printing-holds}
 
 every-statement : EveryStatement

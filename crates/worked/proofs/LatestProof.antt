@@ -13,12 +13,12 @@ use Rattle.surge.specs.Lent.{Run}
 use Rattle.saves.specs.Save.{saveOf, wrote}
 use Rattle.history.specs.History.{Reply, Written, step, save, load, Saved, History, begun, nth, latest, AllOwn, along, history}
 use Rattle.history.proofs.Demand3.{latest-here, latest-past}
-use Rattle.statements.specs.Demand3.{Weather, accepts, other, loaded, saved}
-use Rattle.statements.specs.Examples.{T, T-parameters, T-rooms}
-use Rattle.statements.specs.Computed.{on-T, east, lull, high, text-room, cold-text, east-text, sevens, twice, LatestHolds}
-use Rattle.statements.proofs.Demand3Proof.{demand3-at-surge, any-save-at-surge, own-saves-load}
-use Rattle.statements.proofs.ComputedProof.{first, lulled, went, stepping, to-first, to-lulled, saves, having, to, is-1}
-use Rattle.statements.proofs.Computing.{arithmetic, tables, the-rows, the-formulas, the-equations, the-calls}
+use Rattle.demands.specs.Demand3.{Weather, accepts, other, loaded, saved}
+use Rattle.worked.specs.Examples.{T, T-parameters, T-rooms}
+use Rattle.worked.specs.Computed.{on-T, east, lull, high, text-room, cold-text, east-text, sevens, twice, LatestHolds}
+use Rattle.demands.proofs.Demand3Proof.{demand3-at-surge, any-save-at-surge, own-saves-load}
+use Rattle.worked.proofs.ComputedProof.{first, lulled, went, stepping, to-first, to-lulled, saves, having, to, is-1}
+use Rattle.worked.proofs.Computing.{arithmetic, tables, the-rows, the-formulas, the-equations, the-calls}
 
 -- ---- the calls
 to-high : stepping (on-T .cold) high ≡ went first

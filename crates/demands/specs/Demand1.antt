@@ -26,7 +26,7 @@ use Rattle.saves.specs.Lines.{saveLength}
 use Rattle.saves.specs.Save.{saveText, saveAnswer, SaveOut, wrote}
 use Rattle.loads.specs.Load.{clockOf, loadAnswer, loadedState}
 use Rattle.forcings.specs.Forcings.{still, forcingOf, forcingAnswer}
-use Rattle.statements.specs.Contracts.{Opening, Stepping, Saving, Loading, Reading, OpeningC, SteppingC, SavingC, LoadingC, ReadingC}
+use Rattle.demands.specs.Contracts.{Opening, Stepping, Saving, Loading, Reading, OpeningC, SteppingC, SavingC, LoadingC, ReadingC}
 
 abbrev pub Accepts : Answer → Type 0
 Accepts a = a .number ≡ 0

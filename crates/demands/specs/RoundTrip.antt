@@ -15,7 +15,7 @@ use Rattle.saves.specs.Lines.{saveLength}
 use Rattle.saves.specs.Save.{SaveOut, saveText, saveOf, wrote}
 use Rattle.loads.specs.Load.{loadOf}
 use Rattle.loads.specs.Storable.{StorableState, StorableClock}
-use Rattle.statements.specs.Demand1.{Accepts}
+use Rattle.demands.specs.Demand1.{Accepts}
 
 -- the text that a save wrote: as many bytes as its place says
 abbrev pub written : SaveOut → List ℕ

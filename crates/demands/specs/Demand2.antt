@@ -18,8 +18,8 @@ use Rattle.surge.specs.Step.{stepOf}
 use Rattle.saves.specs.Save.{saveOf}
 use Rattle.loads.specs.Load.{loadOf}
 use Rattle.forcings.specs.Forcings.{takenOf}
-use Rattle.statements.specs.Contracts.{Opening, Stepping, Saving, Loading, Reading, OpeningC, SteppingC, SavingC, LoadingC, ReadingC}
-use Rattle.statements.specs.Demand1.{Accepts}
+use Rattle.demands.specs.Contracts.{Opening, Stepping, Saving, Loading, Reading, OpeningC, SteppingC, SavingC, LoadingC, ReadingC}
+use Rattle.demands.specs.Demand1.{Accepts}
 
 pub record Demand2 : Type 0 where
   pub surge·open : Opening (λ m p state o. o ≡ openOf m p state)

@@ -18,8 +18,8 @@ use Rattle.mesh.specs.Private.{Shaped}
 use Rattle.mesh.proofs.ShapedLaws.{shaped, open-parts}
 use Rattle.surge.specs.Open.{openAnswer}
 use Rattle.lists.specs.Gather.{alike}
-use Rattle.statements.specs.Demand1.{Accepts}
-use Rattle.statements.specs.Demand2.{Demand2, SidesLossless, MeshLossless, FloatsWithoutLoss}
+use Rattle.demands.specs.Demand1.{Accepts}
+use Rattle.demands.specs.Demand2.{Demand2, SidesLossless, MeshLossless, FloatsWithoutLoss}
 
 pub demand2 : Demand2
 demand2 = record {

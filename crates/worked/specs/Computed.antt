@@ -19,9 +19,9 @@ use Rattle.frames.specs.Frames.{bits}
 use Rattle.saves.specs.Save.{wrote, saveOf}
 use Rattle.loads.specs.Load.{loadOf}
 use Rattle.history.specs.History.{Calls, Call, step, save, load, Saved, History, begun, after, history, AllOwn, along}
-use Rattle.statements.specs.Demand3.{Weather, itself, other, lent, saved, surge}
-use Rattle.statements.specs.RoundTrip.{gives}
-use Rattle.statements.specs.Examples.{Outcome, stepped, T, T-parameters, T-rooms}
+use Rattle.demands.specs.Demand3.{Weather, itself, other, lent, saved, surge}
+use Rattle.demands.specs.RoundTrip.{gives}
+use Rattle.worked.specs.Examples.{Outcome, stepped, T, T-parameters, T-rooms}
 
 -- demand 3's calls, of a run on T
 abbrev pub on-T : Calls

@@ -27,8 +27,8 @@ use Rattle.loads.specs.Load.{clockOf, loadAnswer, loadedState, loadOf}
 use Rattle.loads.proofs.LoadLaws.{load-took, load-stayed, load-long, loaded-rows, loaded-wind}
 use Rattle.history.specs.History.{Reply, Call, history, Laws}
 use Rattle.history.proofs.Demand3.{demand3, held-good, any-save-of-a-text}
-use Rattle.statements.specs.RoundTrip.{gives}
-use Rattle.statements.specs.Demand3.{Weather, accepts, coldRun, Into, itself, other, lent, stateAfter, stepped, saved, loaded, surge, Demand3AtSurge, AnySaveAtSurge, OpensCold, OwnSavesLoad, HeldRunsSave}
+use Rattle.demands.specs.RoundTrip.{gives}
+use Rattle.demands.specs.Demand3.{Weather, accepts, coldRun, Into, itself, other, lent, stateAfter, stepped, saved, loaded, surge, Demand3AtSurge, AnySaveAtSurge, OpensCold, OwnSavesLoad, HeldRunsSave}
 
 module _ (m : Mesh) (p : Parameters) where
   -- a run that these calls can hold: four runs of N binary64, a clock that a head can hold, and rows 10 and 12 pass (10 where the mesh passes 1 to 9)

@@ -17,7 +17,7 @@ use Rattle.passes.specs.Settle.{Rooms}
 use Rattle.saves.specs.Save.{saveOf}
 use Rattle.loads.specs.Load.{loadOf}
 use Rattle.forcings.specs.Forcings.{takenOf}
-use Rattle.statements.specs.Demand1.{Accepts, Refuses, OpenSays, StepSays, SaveSays, LoadSays, ForcingSays, Demand1}
+use Rattle.demands.specs.Demand1.{Accepts, Refuses, OpenSays, StepSays, SaveSays, LoadSays, ForcingSays, Demand1}
 use Rattle.surge.proofs.NumberLaws.{not-13, only-13}
 use Rattle.surge.proofs.StepLaws.{early, late, step-cases}
 use Rattle.loads.proofs.LoadLaws.{load-cases}

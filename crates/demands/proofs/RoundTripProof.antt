@@ -1,6 +1,6 @@
 -- The round trip holds.
 use Rattle.loads.proofs.OwnLaws as own
-use Rattle.statements.specs.RoundTrip.{SavedIsLoaded, SameTextSameRun, LoadedIsSaved}
+use Rattle.demands.specs.RoundTrip.{SavedIsLoaded, SameTextSameRun, LoadedIsSaved}
 
 pub saved-is-loaded : SavedIsLoaded
 saved-is-loaded m p state k room old other s c long done = own.saved-loaded m p state k s c old long room done other

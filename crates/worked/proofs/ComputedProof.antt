@@ -18,12 +18,12 @@ use Rattle.saves.specs.Save.{saveOf, wrote}
 use Rattle.loads.specs.Load.{loadOf}
 use Rattle.history.specs.History.{Written, Call, step, save, load, Saved, History, begun, latest, after, AllOwn, along}
 use Rattle.history.proofs.Demand3.{latest-here}
-use Rattle.statements.specs.Demand3.{Weather, accepts, itself, saved}
-use Rattle.statements.specs.RoundTrip.{gives}
-use Rattle.statements.specs.Examples.{Outcome, stepped, T, T-parameters, T-rooms}
-use Rattle.statements.specs.Computed.{on-T, east, north, lull, flood, text-room, text, calls, at, end, answer, ComputedHolds}
-use Rattle.statements.proofs.Demand3Proof.{demand3-at-surge}
-use Rattle.statements.proofs.Computing.{arithmetic, tables, the-rows, the-formulas, the-equations, the-frames, the-calls}
+use Rattle.demands.specs.Demand3.{Weather, accepts, itself, saved}
+use Rattle.demands.specs.RoundTrip.{gives}
+use Rattle.worked.specs.Examples.{Outcome, stepped, T, T-parameters, T-rooms}
+use Rattle.worked.specs.Computed.{on-T, east, north, lull, flood, text-room, text, calls, at, end, answer, ComputedHolds}
+use Rattle.demands.proofs.Demand3Proof.{demand3-at-surge}
+use Rattle.worked.proofs.Computing.{arithmetic, tables, the-rows, the-formulas, the-equations, the-frames, the-calls}
 
 -- ---- the runs in numbers
 abbrev three : Float → List Float

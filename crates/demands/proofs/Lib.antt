@@ -1,0 +1,4 @@
+pub mod Demand1Proof
+pub mod Demand2Proof
+pub mod RoundTripProof
+pub mod Demand3Proof

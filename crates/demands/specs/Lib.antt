@@ -1,0 +1,5 @@
+pub mod Contracts
+pub mod Demand1
+pub mod Demand2
+pub mod RoundTrip
+pub mod Demand3

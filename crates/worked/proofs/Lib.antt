@@ -1,0 +1,4 @@
+pub mod Computing
+pub mod ExamplesProof
+pub mod ComputedProof
+pub mod LatestProof
