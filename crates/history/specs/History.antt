@@ -1,4 +1,4 @@
--- Demand 3, for any run, sentence by sentence; statements/specs/Demand3 has its words as a whole. No mesh, no frame and no formula stands here: `Calls` is
+-- Demand 3, for any run, sentence by sentence; demands/specs/Demand3 has its words as a whole. No mesh, no frame and no formula stands here: `Calls` is
 -- handed them.
 use Prim.Native.Nat.{ℕ, zero, suc}
 use native.Mathlib.Decide.{ℕ-discrete}
