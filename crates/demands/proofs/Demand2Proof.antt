@@ -2,12 +2,9 @@
 use Prim.Native.Nat.{ℕ, _*_, _≤_}
 use mathlib.Core.Path.{_≡_}
 use mathlib.Core.Bool.{true}
-use mathlib.Core.List.{List}
 use native.Mathlib.Omega.{arith}
-use lib.IntN.{ℤ, pos, natAbs}
-use lib.Ieee.{Float}
+use lib.IntN.{ℤ, pos}
 use Rattle.lists.proofs.GatherLaws.{gathered-le}
-use Rattle.quantities.specs.declared.Parameters.{Parameters}
 use Rattle.geometry.specs.declared.WholeSides.{WholeSides}
 use Rattle.geometry.specs.Geometry.{allNear, Lossless}
 use Rattle.geometry.proofs.SizeLaws.{lossless}
@@ -18,7 +15,6 @@ use Rattle.mesh.specs.Private.{Shaped}
 use Rattle.mesh.proofs.ShapedLaws.{shaped, open-parts}
 use Rattle.surge.specs.Open.{openAnswer}
 use Rattle.lists.specs.Gather.{alike}
-use Rattle.demands.specs.Demand1.{Accepts}
 use Rattle.demands.specs.Demand2.{Demand2, SidesLossless, MeshLossless, FloatsWithoutLoss}
 
 pub demand2 : Demand2
