@@ -12,9 +12,10 @@ use Rattle.lists.proofs.ScanLaws.{row-holds, row-passed, then-next, then-first,
 use Rattle.quantities.specs.declared.Parameters.{Parameters}
 use Rattle.limits.specs.Limits.{inBounds}
 use Rattle.mesh.specs.Lent.{Mesh, N}
-use Rattle.mesh.specs.Rows.{meshRows}
+use Rattle.nodes.specs.Rows.{meshRows}
 use Rattle.mesh.specs.Private.{Shaped}
-use Rattle.mesh.proofs.ShapedLaws.{shaped, shaped-asked, mesh-parts, mesh-asked}
+use Rattle.mesh.proofs.ShapedLaws.{shaped, shaped-asked}
+use Rattle.nodes.proofs.PartLaws.{mesh-parts, mesh-asked}
 use Rattle.bounds.specs.State.{stateRuns, nodeOf, row1State, row10, runRows}
 
 pub long-state : (m : Mesh) (state : List Float) → row1State m state .number ≡ 0 → length state ≡ stateRuns * N m

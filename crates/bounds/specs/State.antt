@@ -10,7 +10,7 @@ use Rattle.quantities.specs.declared.Parameters.{Parameters}
 use Rattle.quantities.specs.declared.Node.{Node}
 use Rattle.limits.specs.Limits.{inBounds}
 use Rattle.mesh.specs.Lent.{Mesh, N}
-use Rattle.mesh.specs.Rows.{meshRows}
+use Rattle.nodes.specs.Rows.{meshRows}
 
 -- "The state is 4N numbers in four runs of N: earlier elevation, present elevation z, U, V."
 abbrev pub stateRuns : ℕ

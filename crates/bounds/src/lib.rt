@@ -71,7 +71,7 @@ pub fn run_rows(
     ensures { λ r. ⌜ r ≡ runRows asked (mesh (now (x .entry)) (now (y .entry)) (now (tri .entry)) (now (h .entry)) (now (kind .entry))) p (now (state .entry)) ⌝ }
 {
     let long = rows::tested(slices::is_runs(state.len(), STATE_RUNS, x.len()), 1, 0);
-    let lent = mesh::mesh_rows(rows::first(asked, long), x, y, tri, h, kind, p);
+    let lent = nodes::mesh_rows(rows::first(asked, long), x, y, tri, h, kind, p);
     if lent.number != 0 {
         return lent;
     }

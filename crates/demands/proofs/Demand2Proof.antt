@@ -12,7 +12,8 @@ use Rattle.geometry.proofs.GeometryLaws.{Small, all-small}
 use Rattle.mesh.specs.Lent.{Mesh, E, corners}
 use Rattle.mesh.specs.Geometry.{S, area}
 use Rattle.mesh.specs.Private.{Shaped}
-use Rattle.mesh.proofs.ShapedLaws.{shaped, open-parts}
+use Rattle.mesh.proofs.ShapedLaws.{shaped}
+use Rattle.nodes.proofs.PartLaws.{open-parts}
 use Rattle.surge.specs.Open.{openAnswer}
 use Rattle.lists.specs.Gather.{alike}
 use Rattle.demands.specs.Demand2.{Demand2, SidesLossless, MeshLossless, FloatsWithoutLoss}

@@ -10,7 +10,7 @@ use Rattle.quantities.specs.declared.Parameters.{Parameters}
 use Rattle.mesh.specs.Lent.{Mesh, N}
 use Rattle.lists.specs.Scan.{accepted}
 use Rattle.surge.specs.Lent.{Run, run, After, windOf}
-use Rattle.mesh.specs.Rows.{meshRows}
+use Rattle.nodes.specs.Rows.{meshRows}
 use Rattle.surge.specs.Open.{openAnswer, openOf}
 use Rattle.limits.specs.Limits.{row12Held}
 use Rattle.bounds.specs.State.{stateRuns, runRows}

@@ -8,7 +8,9 @@ use Rattle.limits.specs.Limits.{isNode, row9}
 use Rattle.surge.specs.Lent.{coldState, coldClock, after}
 use Rattle.mesh.specs.Geometry.{sides}
 use Rattle.geometry.specs.Geometry.{allNear}
-use Rattle.mesh.specs.Rows.{row1, row2, allBelow, row3, row4, row5, triangleRows, isLeg, row6, isNamed, row7, row8, shapeRows, nodeRows, openRows}
+use Rattle.mesh.specs.Rows.{row1, row2, allBelow, row3, row4, row5, triangleRows, shapeRows}
+use Rattle.legs.specs.Legs.{isLeg, row6}
+use Rattle.nodes.specs.Rows.{isNamed, row7, row8, nodeRows, openRows}
 use Rattle.surge.specs.Open.{openAnswer, openOf}
 use Rattle.forcelog.specs.MeshT.{T, T-parameters}
 

@@ -13,12 +13,13 @@ use Rattle.quantities.specs.declared.Parameters.{Parameters}
 use Rattle.surge.specs.declared.Clock.{Clock}
 use Rattle.mesh.specs.Lent.{Mesh, N}
 use Rattle.surge.specs.Lent.{After, after, windOf}
-use Rattle.mesh.specs.Rows.{meshRows}
+use Rattle.nodes.specs.Rows.{meshRows}
 use Rattle.limits.specs.Limits.{inBounds, row12Held}
 use Rattle.bounds.specs.State.{stateRuns, runRows}
 use Rattle.lists.specs.Scan.{accepted}
 use Rattle.lists.proofs.RunLaws.{runs-length}
-use Rattle.mesh.proofs.ShapedLaws.{shaped-asked, mesh-parts, mesh-asked}
+use Rattle.mesh.proofs.ShapedLaws.{shaped-asked}
+use Rattle.nodes.proofs.PartLaws.{mesh-parts, mesh-asked}
 use Rattle.bounds.proofs.StateLaws.{long-state, in-bounds}
 use Rattle.surge.proofs.NextLaws.{four-runs}
 use Rattle.loads.specs.Load.{clockOf, loadedNode, loadAnswer, loadedState, loadOf}

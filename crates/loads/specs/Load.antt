@@ -16,7 +16,7 @@ use Rattle.frames.specs.Reading.{value, float, fault}
 use Rattle.surge.specs.declared.Clock.{Clock}
 use Rattle.mesh.specs.Lent.{Mesh, N, E}
 use Rattle.surge.specs.Lent.{After, after, windOf}
-use Rattle.mesh.specs.Rows.{meshRows}
+use Rattle.nodes.specs.Rows.{meshRows}
 use Rattle.bounds.specs.State.{row1State}
 use Rattle.limits.specs.Limits.{inBounds, row12Held}
 use Rattle.saves.specs.Lines.{headLayout, nodeLayout, endLayout, layoutAt, due, startOf, saveLength}

@@ -28,7 +28,7 @@ pub fn load(
 {
     let n = x.len();
     let long = rows::tested(slices::is_runs(state.len(), STATE_RUNS, n), 1, 0);
-    let lent = mesh::mesh_rows(long, x, y, tri, h, kind, p);
+    let lent = nodes::mesh_rows(long, x, y, tri, h, kind, p);
     if lent.number != 0 {
         return Reply {
             answer: lent,

@@ -1,6 +1,6 @@
 -- Where the mesh's rows accept, the mesh is as `Shaped` says, and so is what the call asked before.
-use Prim.Native.Nat.{ℕ, zero, suc, _/_, _%_, _<_, _≤_}
-use mathlib.Core.Path.{_≡_, refl, sym, ap, subst, _∙_}
+use Prim.Native.Nat.{ℕ, zero, suc, _/_, _%_, _<_}
+use mathlib.Core.Path.{_≡_, refl, sym, subst}
 use mathlib.Core.Bool.{Bool, true, false, _&&_}
 use mathlib.Core.List.{List}
 use native.Mathlib.Nat.{div-add-mod}
@@ -10,19 +10,15 @@ use lib.Dec.{T, leb, eqb}
 use lib.IntN.{ℤ, pos, negsuc, natAbs}
 use lib.Signed.{ltZ}
 use lib.ListN.{length, getD}
-use lib.Ieee.{Float, nan}
 use Rattle.lists.specs.declared.rows.Answer.{Answer}
 use Rattle.lists.specs.Private.{Below}
-use Rattle.lists.specs.Scan.{accepted, _then_}
-use Rattle.lists.specs.Numbers.{within, decimal}
-use Rattle.lists.proofs.ScanLaws.{row-passed, then-next, then-first, then-rest, scan-clean, both-left, both-right}
-use Rattle.quantities.specs.declared.Parameters.{Parameters}
+use Rattle.lists.specs.Scan.{_then_}
+use Rattle.lists.proofs.ScanLaws.{row-passed, then-first, then-rest, scan-clean, both-left, both-right}
 use Rattle.geometry.specs.Geometry.{D, allNear}
 use Rattle.geometry.proofs.GeometryLaws.{all-small}
-use Rattle.limits.specs.Limits.{isNode}
 use Rattle.mesh.specs.Lent.{Mesh, N, E, corner, corners}
 use Rattle.mesh.specs.Geometry.{sides, area}
-use Rattle.mesh.specs.Rows.{allBelow, row1, row2, row3, row4, row5, triangleRows, row8, shapeRows, nodeRows, meshRows, openRows}
+use Rattle.mesh.specs.Rows.{allBelow, row1, row2, row3, row4, row5, triangleRows, shapeRows}
 use Rattle.mesh.specs.Private.{Sized, Sound, Shaped}
 use Rattle.mesh.proofs.RowLaws.{below-all}
 
@@ -111,35 +107,3 @@ module _ (asked : Answer) (m : Mesh) where
           sized = sized m (then-first _ _ e1) (then-first _ _ e2);
           triangles = λ t h. sound (m .x) (m .y) (m .tri) t (scan-clean _ _ (then-rest _ _ e2) t h);
         }
-
-    -- what the rows of the nodes ask of the slices
-    pub for-nodes : ((N m ≤ 4096) × (length (m .h) ≡ N m) × (length (m .kind) ≡ N m)) × ((j : ℕ) → j < length (m .tri) → getD (m .tri) j 0 < N m)
-    for-nodes = let z = shaped .sized in ((z .most-nodes, z .h, z .kind), numbers-below m shaped)
-
--- row 8: each depth is in its range
-pub depth-in : (n : ℕ) (tri : List ℕ) (h : List Float) (kind : List ℕ) (p : Parameters) → nodeRows n tri h kind p .number ≡ 0 → (i : ℕ) → i < n
-    → within (decimal 1 1) (getD h i nan) (decimal 12000 1) ≡ true
-unfolding nodeRows row8 isNode
-depth-in n tri h kind p e i l = both-left _ (leb (getD kind i 0) 2) (row-passed _ 7 i (scan-clean _ _ (then-first _ _ (then-rest _ _ e)) i l))
-
--- what both kinds of call ask
-pub mesh-parts : (asked : Answer) (m : Mesh) (p : Parameters) → meshRows asked m p .number ≡ 0
-    → (shapeRows asked m .number ≡ 0) × (nodeRows (N m) (m .tri) (m .h) (m .kind) p .number ≡ 0)
-unfolding meshRows
-mesh-parts asked m p e = (then-first _ _ e, then-rest _ _ e)
-
--- where they accept, so do the mesh's rows with nothing asked before
-pub parts-mesh : (asked : Answer) (m : Mesh) (p : Parameters) → shapeRows asked m .number ≡ 0 → nodeRows (N m) (m .tri) (m .h) (m .kind) p .number ≡ 0
-    → meshRows accepted m p .number ≡ 0
-unfolding meshRows shapeRows
-parts-mesh asked m p e f =
-    let shape : shapeRows accepted m .number ≡ 0 = ap (λ (a : Answer). a .number) (then-next accepted _ refl) ∙ then-rest asked _ e in
-    ap (λ (a : Answer). a .number) (then-next _ _ shape) ∙ f
-
-pub mesh-asked : (asked : Answer) (m : Mesh) (p : Parameters) → meshRows asked m p .number ≡ 0 → meshRows accepted m p .number ≡ 0
-mesh-asked asked m p e = let parts = mesh-parts asked m p e in parts-mesh asked m p (parts .0) (parts .1)
-
-pub open-parts : (asked : Answer) (m : Mesh) (p : Parameters) → openRows asked m p .number ≡ 0
-    → (shapeRows asked m .number ≡ 0) × (nodeRows (N m) (m .tri) (m .h) (m .kind) p .number ≡ 0)
-unfolding openRows
-open-parts asked m p e = (then-first _ _ e, then-rest _ _ (then-rest _ _ e))

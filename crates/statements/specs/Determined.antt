@@ -91,10 +91,14 @@ use Rattle.geometry.proofs.floats_of.Kinds as geometry·floats-of-kinds
 use Rattle.geometry.proofs.floats_of.Reads as geometry·floats-of-reads
 use Rattle.mesh.proofs.reading.corners_at.Kinds as mesh·reading·corners-at-kinds
 use Rattle.mesh.proofs.reading.corners_at.Reads as mesh·reading·corners-at-reads
-use Rattle.mesh.proofs.mesh_rows.Kinds as mesh·mesh-rows-kinds
-use Rattle.mesh.proofs.mesh_rows.Reads as mesh·mesh-rows-reads
-use Rattle.mesh.proofs.open_rows.Kinds as mesh·open-rows-kinds
-use Rattle.mesh.proofs.open_rows.Reads as mesh·open-rows-reads
+use Rattle.mesh.proofs.shape_rows.Kinds as mesh·shape-rows-kinds
+use Rattle.mesh.proofs.shape_rows.Reads as mesh·shape-rows-reads
+use Rattle.legs.proofs.leg_rows.Kinds as legs·leg-rows-kinds
+use Rattle.legs.proofs.leg_rows.Reads as legs·leg-rows-reads
+use Rattle.nodes.proofs.mesh_rows.Kinds as nodes·mesh-rows-kinds
+use Rattle.nodes.proofs.mesh_rows.Reads as nodes·mesh-rows-reads
+use Rattle.nodes.proofs.open_rows.Kinds as nodes·open-rows-kinds
+use Rattle.nodes.proofs.open_rows.Reads as nodes·open-rows-reads
 use Rattle.bounds.proofs.run_rows.Kinds as bounds·run-rows-kinds
 use Rattle.bounds.proofs.run_rows.Reads as bounds·run-rows-reads
 use Rattle.passes.proofs.settle.Kinds as passes·settle-kinds
@@ -180,8 +184,10 @@ pub record EachDetermined : Type 0 where
   pub geometry·sum-of-determined : Determined geometry·sum-of-kinds.ps geometry·sum-of-kinds.r geometry·sum-of-reads.Post
   pub geometry·floats-of-determined : Determined geometry·floats-of-kinds.ps geometry·floats-of-kinds.r geometry·floats-of-reads.Post
   pub mesh·reading·corners-at-determined : Determined mesh·reading·corners-at-kinds.ps mesh·reading·corners-at-kinds.r mesh·reading·corners-at-reads.Post
-  pub mesh·mesh-rows-determined : Determined mesh·mesh-rows-kinds.ps mesh·mesh-rows-kinds.r mesh·mesh-rows-reads.Post
-  pub mesh·open-rows-determined : Determined mesh·open-rows-kinds.ps mesh·open-rows-kinds.r mesh·open-rows-reads.Post
+  pub mesh·shape-rows-determined : Determined mesh·shape-rows-kinds.ps mesh·shape-rows-kinds.r mesh·shape-rows-reads.Post
+  pub legs·leg-rows-determined : Determined legs·leg-rows-kinds.ps legs·leg-rows-kinds.r legs·leg-rows-reads.Post
+  pub nodes·mesh-rows-determined : Determined nodes·mesh-rows-kinds.ps nodes·mesh-rows-kinds.r nodes·mesh-rows-reads.Post
+  pub nodes·open-rows-determined : Determined nodes·open-rows-kinds.ps nodes·open-rows-kinds.r nodes·open-rows-reads.Post
   pub bounds·run-rows-determined : Determined bounds·run-rows-kinds.ps bounds·run-rows-kinds.r bounds·run-rows-reads.Post
   pub passes·settle-determined : Determined passes·settle-kinds.ps passes·settle-kinds.r passes·settle-reads.Post
   pub surge·Clock·wind-determined : Determined surge·Clock·wind-kinds.ps surge·Clock·wind-kinds.r surge·Clock·wind-reads.Post

@@ -23,8 +23,8 @@ use Rattle.quantities.specs.Operations.{_⊕_}
 use Rattle.quantities.specs.Constants.{tenth}
 use Rattle.limits.specs.Limits.{inBounds, row12Held}
 use Rattle.mesh.specs.Lent.{Mesh, N}
-use Rattle.mesh.specs.Rows.{meshRows, openRows}
-use Rattle.mesh.proofs.ShapedLaws.{depth-in, mesh-parts, open-parts, parts-mesh}
+use Rattle.nodes.specs.Rows.{meshRows, openRows}
+use Rattle.nodes.proofs.PartLaws.{depth-in, mesh-parts, open-parts, parts-mesh}
 use Rattle.bounds.specs.State.{stateRuns, nodeOf, runRows}
 use Rattle.bounds.proofs.StateLaws.{in-bounds}
 use Rattle.surge.specs.Lent.{coldState, coldClock, windOf}

@@ -23,7 +23,7 @@ use Rattle.quantities.specs.Constants.{tenth}
 use Rattle.outcomes.specs.Outcomes.{ofRise, speed, answerOf}
 use Rattle.limits.specs.Limits.{inBounds, row12Held, row12New}
 use Rattle.mesh.specs.Lent.{Mesh, N}
-use Rattle.mesh.specs.Rows.{meshRows}
+use Rattle.nodes.specs.Rows.{meshRows}
 use Rattle.bounds.specs.State.{nodeOf, runRows}
 use Rattle.bounds.proofs.StateLaws.{AcceptedRun, accepted-run, in-bounds}
 use Rattle.passes.specs.Equations.{Given, count, node, rise, flowAt, U′, V′, nextState}

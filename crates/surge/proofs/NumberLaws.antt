@@ -14,7 +14,8 @@ use Rattle.outcomes.specs.declared.Outcome.the-variants.{Accepted, Elevation, C
 use Rattle.outcomes.specs.Outcomes.{ofRise, ofEast, ofNorth, answerOf}
 use Rattle.limits.specs.Limits.{row9, row11, row12Held, row12New}
 use Rattle.mesh.specs.Lent.{Mesh}
-use Rattle.mesh.specs.Rows.{row1, row2, row3, row4, row5, triangleRows, row7, row8, shapeRows, nodeRows, meshRows}
+use Rattle.mesh.specs.Rows.{row1, row2, row3, row4, row5, triangleRows, shapeRows}
+use Rattle.nodes.specs.Rows.{row7, row8, nodeRows, meshRows}
 use Rattle.bounds.specs.State.{row10, runRows}
 use Rattle.passes.specs.Equations.{Given, count, node, rise, flowAt}
 use Rattle.passes.specs.Row13.{riseRow, flowRow, riseRows, flowRows, row13}

@@ -12,7 +12,8 @@ use Rattle.lists.specs.Table.{zeros}
 use Rattle.lists.proofs.ScanLaws.{same-number}
 use Rattle.quantities.specs.declared.Parameters.{Parameters}
 use Rattle.mesh.specs.Lent.{Mesh, N}
-use Rattle.mesh.proofs.ShapedLaws.{shaped-asked, open-parts}
+use Rattle.mesh.proofs.ShapedLaws.{shaped-asked}
+use Rattle.nodes.proofs.PartLaws.{open-parts}
 use Rattle.bounds.specs.State.{stateRuns}
 use Rattle.bounds.proofs.StateLaws.{long-state}
 use Rattle.surge.specs.declared.Clock.{Clock}

@@ -6,7 +6,7 @@ use lib.Ieee.{Float}
 use Rattle.lists.specs.declared.rows.Answer.{Answer}
 use Rattle.quantities.specs.declared.Parameters.{Parameters}
 use Rattle.mesh.specs.Lent.{Mesh, N}
-use Rattle.mesh.specs.Rows.{openRows}
+use Rattle.nodes.specs.Rows.{openRows}
 use Rattle.bounds.specs.State.{row1State}
 use Rattle.surge.specs.Lent.{coldState, coldClock, After, after}
 

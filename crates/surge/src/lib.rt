@@ -76,7 +76,7 @@ pub fn open(
     ensures { λ r. ⌜ after r (now (state .exit)) ≡ openOf (mesh (now (x .entry)) (now (y .entry)) (now (tri .entry)) (now (h .entry)) (now (kind .entry))) p (now (state .entry)) ⌝ }
 {
     let long = rows::tested(slices::is_runs(state.len(), STATE_RUNS, x.len()), 1, 0);
-    let answer = mesh::open_rows(long, x, y, tri, h, kind, p);
+    let answer = nodes::open_rows(long, x, y, tri, h, kind, p);
     if answer.number == 0 {
         slices::clear(state);
     }

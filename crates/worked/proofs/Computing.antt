@@ -14,7 +14,9 @@ use Rattle.frames.specs.Reading.{value, isFramed, row20, row21, row22, fault}
 use Rattle.limits.specs.Limits.{isNode, row9, inBounds, row11, row12Held, row12New}
 use Rattle.mesh.specs.Geometry.{sides, area}
 use Rattle.geometry.specs.Geometry.{allNear, floats}
-use Rattle.mesh.specs.Rows.{row1, row2, allBelow, row3, row4, row5, triangleRows, isLeg, row6, isNamed, row7, row8, shapeRows, nodeRows, meshRows, openRows}
+use Rattle.mesh.specs.Rows.{row1, row2, allBelow, row3, row4, row5, triangleRows, shapeRows}
+use Rattle.legs.specs.Legs.{isLeg, row6}
+use Rattle.nodes.specs.Rows.{isNamed, row7, row8, nodeRows, meshRows, openRows}
 use Rattle.surge.specs.Open.{openAnswer, openOf}
 use Rattle.bounds.specs.State.{row10, runRows}
 use Rattle.passes.specs.Equations.{riseOf, flowOf, sharesAt, rise, slopeX, slopeY, flowAt, nextState}

@@ -4,8 +4,9 @@ use Rattle.lists.specs.declared.rows.Answer.{Answer}
 use Rattle.lists.specs.Scan.{row, _then_}
 use Rattle.lists.proofs.ScanLaws.{same-number, stops, goes, then-rest}
 use Rattle.mesh.specs.Lent.{Mesh, mesh}
-use Rattle.mesh.specs.Rows.{meshRows}
-use Rattle.mesh.proofs.ShapedLaws.{shaped, shaped-asked, mesh-parts}
+use Rattle.nodes.specs.Rows.{meshRows}
+use Rattle.mesh.proofs.ShapedLaws.{shaped, shaped-asked}
+use Rattle.nodes.proofs.PartLaws.{mesh-parts}
 use Rattle.bounds.specs.State.{row1State, runRows}
 use Rattle.bounds.proofs.StateLaws.{long-state}
 use Rattle.bounds.proofs.run_rows.Statement.{statement}

@@ -5,9 +5,10 @@ use Rattle.lists.specs.declared.rows.Answer.{Answer}
 use Rattle.lists.specs.Scan.{row}
 use Rattle.lists.proofs.ScanLaws.{same-number, stops, goes}
 use Rattle.mesh.specs.Lent.{Mesh, mesh}
-use Rattle.mesh.specs.Rows.{meshRows}
+use Rattle.nodes.specs.Rows.{meshRows}
 use Rattle.mesh.specs.Private.{Sized}
-use Rattle.mesh.proofs.ShapedLaws.{shaped, shaped-asked, mesh-parts}
+use Rattle.mesh.proofs.ShapedLaws.{shaped, shaped-asked}
+use Rattle.nodes.proofs.PartLaws.{mesh-parts}
 use Rattle.bounds.specs.State.{row1State}
 use Rattle.bounds.proofs.StateLaws.{long-state}
 use Rattle.loads.specs.Load.{loadAnswer}

@@ -6,7 +6,7 @@ use Rattle.lists.specs.declared.rows.Answer.{Answer}
 use Rattle.lists.specs.Scan.{row}
 use Rattle.lists.proofs.TableLaws.{length-table}
 use Rattle.mesh.specs.Lent.{mesh}
-use Rattle.mesh.specs.Rows.{openRows}
+use Rattle.nodes.specs.Rows.{openRows}
 use Rattle.surge.specs.Open.{openAnswer}
 use Rattle.surge.proofs.OpenLaws.{open-accepted, open-refused}
 use Rattle.surge.proofs.open.Statement.{statement}
