@@ -18,13 +18,13 @@ use Rattle.quantities.specs.declared.Parameters.{Parameters}
 use Rattle.quantities.specs.declared.Forcing.{Forcing}
 use Rattle.quantities.specs.declared.Push.{Push}
 use Rattle.quantities.specs.declared.Flow.{Flow}
-use Rattle.equations.specs.Elevation.{z′}
-use Rattle.equations.specs.Velocity.{flow, U′ as u′, V′ as v′}
+use Rattle.elevation.specs.Elevation.{z′, riseOf}
+use Rattle.velocity.specs.Velocity.{flow, U′ as u′, V′ as v′, flowOf}
 use Rattle.frames.proofs.BackLaws.{value-small}
 use Rattle.mesh.specs.Lent.{Mesh, N}
 use Rattle.bounds.specs.State.{stateRuns}
 use Rattle.surge.specs.Lent.{Run, coldState, coldClock}
-use Rattle.passes.specs.Equations.{riseOf, rise, flowOf, flowAt, nextState}
+use Rattle.passes.specs.Equations.{rise, flowAt, nextState}
 use Rattle.surge.specs.Step.{givenOf, advance}
 use Rattle.lists.proofs.RunLaws.{runs-length}
 use Rattle.loads.specs.Storable.{StorableClock, StorableState}

@@ -2,9 +2,10 @@
 use Prim.Native.Nat.{ℕ}
 use mathlib.Core.Bool.{cond}
 use lib.Ieee.{Float, le}
-use Rattle.lists.specs.Scan.{accepted}
+use Rattle.lists.specs.Scan.{accepted, _then_}
 use Rattle.lists.specs.Numbers.{inSize}
 use Rattle.lists.specs.declared.rows.Answer.{Answer}
+use Rattle.quantities.specs.declared.Flow.{Flow}
 use Rattle.quantities.specs.Operations.{_⊕_}
 use Rattle.quantities.specs.Constants.{tenth}
 use Rattle.outcomes.specs.declared.Outcome.{Outcome}
@@ -37,3 +38,12 @@ answerOf (Elevation z′) node = offending node z′
 answerOf (Column H′) node = offending node H′
 answerOf (East U′) node = offending node U′
 answerOf (North V′) node = offending node V′
+
+-- | 13 | z' beyond 30, H' below 0.1, U' or V' beyond 20 | node |
+-- "all z' first (node by node, size, then H')": of node i with depth h and z'
+unfoldable pub riseRow : Float → Float → ℕ → Answer
+riseRow h z′ i = answerOf (ofRise h z′) i
+
+-- "then, node by node, U' before V'"
+unfoldable pub flowRow : Flow → ℕ → Answer
+flowRow v i = answerOf (ofEast (v .u)) i then answerOf (ofNorth (v .v)) i

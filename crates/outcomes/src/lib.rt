@@ -1,7 +1,8 @@
 // Row 13 of the refusal table on single values: what becomes of a node, and the answer for it.
 use lists::rows;
+use quantities::Flow;
 ghost use mathlib.Core.Path.{_≡_};
-ghost use Rattle.outcomes.specs.Outcomes.{ofRise, speed, ofEast, ofNorth, answerOf};
+ghost use Rattle.outcomes.specs.Outcomes.{ofRise, speed, ofEast, ofNorth, answerOf, riseRow, flowRow};
 
 // What becomes of a node: the value that is accepted, or the quantity that left its range: z', H', U' or V'.
 pub enum Outcome {
@@ -13,7 +14,7 @@ pub enum Outcome {
 }
 
 // z' in size, then H'.
-pub fn of_rise(h: f64, z: f64) -> Outcome
+fn of_rise(h: f64, z: f64) -> Outcome
     ensures { λ r. ⌜ r ≡ ofRise h z ⌝ }
 {
     if rows::in_range(-30.0, z, 30.0) {
@@ -38,19 +39,19 @@ fn speed(v: f64, refusal: Outcome) -> Outcome
     }
 }
 
-pub fn of_east(u: f64) -> Outcome
+fn of_east(u: f64) -> Outcome
     ensures { λ r. ⌜ r ≡ ofEast u ⌝ }
 {
     speed(u, Outcome::East(u))
 }
 
-pub fn of_north(v: f64) -> Outcome
+fn of_north(v: f64) -> Outcome
     ensures { λ r. ⌜ r ≡ ofNorth v ⌝ }
 {
     speed(v, Outcome::North(v))
 }
 
-pub fn answer(o: Outcome, node: usize) -> rows::Answer
+fn answer(o: Outcome, node: usize) -> rows::Answer
     ensures { λ r. ⌜ r ≡ answerOf o node ⌝ }
 {
     match o {
@@ -63,4 +64,20 @@ pub fn answer(o: Outcome, node: usize) -> rows::Answer
             }
         }
     }
+}
+
+// Row 13 of a node's z', at depth h.
+pub fn rise_row(h: f64, z: f64, node: usize) -> rows::Answer
+    ensures { λ r. ⌜ r ≡ riseRow h z node ⌝ }
+{
+    answer(of_rise(h, z), node)
+}
+
+// Row 13 of a node's U' and V'.
+pub fn flow_row(v: Flow, node: usize) -> rows::Answer
+    ensures { λ r. ⌜ r ≡ flowRow v node ⌝ }
+{
+    let east = answer(of_east(v.u), node);
+    let north = answer(of_north(v.v), node);
+    rows::first(east, north)
 }

@@ -7,7 +7,8 @@ use native.Mathlib.Omega.{arith}
 use borrow.Author.Tests.{ltb-true, ltb-false}
 use lib.Dec.{ltb, lit<}
 use lib.ListN.{getD, set, List·getD-eq-default}
-use lib.Ieee.{Float, nan}
+use lib.IntN.{pos}
+use lib.Ieee.{Float, nan, binary64, ofInt}
 use Rattle.lists.specs.Table.{table}
 use Rattle.lists.specs.Runs.{inRun, runsOf}
 use Rattle.lists.specs.Gather.{Three, alike, whole, gathered}
@@ -22,7 +23,8 @@ use Rattle.quantities.specs.declared.Flow.{Flow}
 use Rattle.quantities.specs.declared.Sides.{Sides}
 use Rattle.quantities.specs.declared.Shares.{Shares}
 use Rattle.quantities.specs.Operations.{_⊕_}
-use Rattle.equations.specs.Elevation.{shares, slope}
+use Rattle.triangle.specs.Triangle.{slope}
+use Rattle.elevation.specs.Elevation.{shares, riseOf}
 use Rattle.geometry.specs.declared.Places.{Places}
 use Rattle.geometry.specs.declared.Corners.{Corners}
 use Rattle.geometry.specs.declared.WholeSides.{WholeSides}
@@ -33,9 +35,11 @@ use Rattle.mesh.specs.Lent.{E}
 use Rattle.mesh.specs.Geometry.{sides, area}
 use Rattle.mesh.specs.Private.{placesOf, Sound}
 use Rattle.mesh.proofs.SideLaws.{sides-read}
-use Rattle.passes.specs.declared.velocity.Slope.{Slope}
-use Rattle.passes.specs.Equations.{Given, count, node, kindOf, cornersOf, floatsAt, floating, threeOf, sharesAt, R, S, riseOf, rise, both, slopeX, slopeY, Px, Py, flowOf, pushOf, flowAt, U′, V′}
-use Rattle.passes.specs.Row13.{riseRow, riseRows, flowRow, flowRows}
+use Rattle.passes.specs.declared.velocities.Slope.{Slope}
+use Rattle.velocity.specs.Velocity.{flowOf, pushOf}
+use Rattle.passes.specs.Equations.{Given, count, node, kindOf, cornersOf, floatsAt, floating, threeOf, sharesAt, R, S, floatS, rise, both, slopeX, slopeY, Px, Py, flowAt, U′, V′}
+use Rattle.outcomes.specs.Outcomes.{riseRow, flowRow}
+use Rattle.passes.specs.Row13.{riseRows, flowRows}
 use Rattle.passes.specs.Private.{Fits, zero, sumRoom, riseRoom, slopeRoom, flowRoom, bothOf, slopeOf}
 
 -- ---- the work room while a pass is made: the triangles below t, or the nodes below i, are done
@@ -158,18 +162,18 @@ module _ (g : Given) (z : Fits g) where
 
   -- ---- node i, as it is read, and a turn of a pass over the nodes
   module _ (i : ℕ) (h : i < count g) {sums : List ℕ} (es : sums ≡ table (count g) (S g)) where
-    its-S : getD sums i 0 ≡ S g i
-    its-S = ap (λ (l : List ℕ). getD l i 0) es ∙ getD-table (count g) (S g) i 0 h
+    its-S : ofInt binary64 (pos (getD sums i 0)) ≡ floatS g i
+    its-S = ap (λ (l : List ℕ). ofInt binary64 (pos (getD l i 0))) es ∙ ap (λ (k : ℕ). ofInt binary64 (pos k)) (getD-table (count g) (S g) i 0 h)
 
-    pub its-rise : {work : List Float} {c : Node} {v : Float} → work ≡ risesTo g i → c ≡ node g i
-        → v ≡ riseOf (g .p) (kindOf g i) (g .forcing .elevation) c (getD sums i 0) (inRun (count g) 0 work i) → v ≡ rise g i
+    pub its-rise : {work : List Float} {c : Node} {s v : Float} → work ≡ risesTo g i → c ≡ node g i → s ≡ ofInt binary64 (pos (getD sums i 0))
+        → v ≡ riseOf (g .p) (kindOf g i) (g .forcing .elevation) c s (inRun (count g) 0 work i) → v ≡ rise g i
     unfolding rise
-    its-rise ew ec ev =
+    its-rise ew ec eS ev =
         let r = ap (λ (l : List Float). inRun (count g) 0 l i) ew ∙ run-read (count g) (turned i (rise g) (R g) ∷ zero ∷ zero ∷ []) 0 i nan (lit< tt) h ∙ turn-here (rise g) (R g) i in
-        ev ∙ (λ j. riseOf (g .p) (kindOf g i) (g .forcing .elevation) (ec j) (its-S j) (r j))
+        ev ∙ (λ j. riseOf (g .p) (kindOf g i) (g .forcing .elevation) (ec j) ((eS ∙ its-S) j) (r j))
 
     pub its-flow : {work : List Float} {v : Flow} → work ≡ flowsTo g i
-        → v ≡ flowOf (g .p) (kindOf g i) (pushOf (node g i) (g .wind) (g .forcing) (getD sums i 0) (inRun (count g) 0 work i) (inRun (count g) 1 work i) (inRun (count g) 2 work i))
+        → v ≡ flowOf (g .p) (kindOf g i) (pushOf (node g i) (g .wind) (g .forcing) (ofInt binary64 (pos (getD sums i 0))) (inRun (count g) 0 work i) (inRun (count g) 1 work i) (inRun (count g) 2 work i))
         → v ≡ flowAt g i
     unfolding flowAt
     its-flow ew ev =

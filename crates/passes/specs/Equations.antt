@@ -1,8 +1,6 @@
 -- Document 01, "Elevation" and "Velocity" over a mesh: what a node sums over its triangles, z', U' and V' of each node, node by node.
 use Prim.Native.Nat.{ℕ}
-use mathlib.Core.Bool.{cond}
 use mathlib.Core.List.{List, [], _∷_}
-use lib.Dec.{eqb}
 use lib.IntN.{pos}
 use lib.ListN.{getD}
 use lib.Ieee.{Float, binary64, ofInt}
@@ -15,45 +13,16 @@ use Rattle.quantities.specs.declared.Forcing.{Forcing}
 use Rattle.quantities.specs.declared.Node.{Node}
 use Rattle.quantities.specs.declared.Sides.{Sides}
 use Rattle.quantities.specs.declared.Shares.{Shares}
-use Rattle.quantities.specs.declared.Push.{Push}
 use Rattle.quantities.specs.declared.Flow.{Flow}
 use Rattle.quantities.specs.Operations.{_⊕_}
-use Rattle.equations.specs.Elevation.{shares, slope, z*, L, z′}
-use Rattle.equations.specs.Velocity.{flow}
+use Rattle.triangle.specs.Triangle.{slope}
+use Rattle.elevation.specs.Elevation.{shares, riseOf}
+use Rattle.velocity.specs.Velocity.{flowOf, pushOf}
 use Rattle.geometry.specs.Geometry.{floats}
 use Rattle.mesh.specs.Lent.{Mesh, N, E, corners}
 use Rattle.mesh.specs.Geometry.{sides}
 use Rattle.mesh.specs.Geometry as G
 use Rattle.bounds.specs.State.{nodeOf}
-
--- ---- single values
-
--- z' with "L = (S/6)/dt."; "At kind 1, z' is the forcing's elevation."
-unfoldable pub riseOf : Parameters → ℕ → Float → Node → ℕ → Float → Float
-riseOf p kind elevation c s r = cond (eqb kind 1) elevation (z′ p (L (ofInt binary64 (pos s)) (p .dt)) (c .z) (z* c) r)
-
--- U' and V'; "At kind 2 both are +0."
-unfoldable pub flowOf : Parameters → ℕ → Push → Flow
-flowOf p kind x = cond (eqb kind 2) (record { u = plus0; v = plus0 }) (flow p x)
-
--- from the present wind and the forcing's new one
-abbrev pub pushOf : Node → Wind → Forcing → ℕ → Float → Float → Float → Push
-pushOf c w f s rise px py = record {
-  h = c .h;
-  z = c .z;
-  rise = rise;
-  u = c .u;
-  v = c .v;
-  px = px;
-  py = py;
-  s = ofInt binary64 (pos s);
-  wx = w .x;
-  wy = w .y;
-  «wx_new» = f .wx;
-  «wy_new» = f .wy;
-}
-
--- ---- over a mesh
 
 -- floats, from +0
 abbrev pub floating : Adding Float
@@ -105,9 +74,13 @@ module _ (g : Given) where
   abbrev pub S : ℕ → ℕ
   S = G.S (g .mesh .x) (g .mesh .y) (g .mesh .tri)
 
+  -- as a float: "all become floats without loss"
+  abbrev pub floatS : ℕ → Float
+  floatS i = ofInt binary64 (pos (S i))
+
   -- z' of node i
   unfoldable pub rise : ℕ → Float
-  rise i = riseOf (g .p) (kindOf i) (g .forcing .elevation) (node i) (S i) (R i)
+  rise i = riseOf (g .p) (kindOf i) (g .forcing .elevation) (node i) (floatS i) (R i)
 
   -- "((z1+z1')·b1 + (z2+z2')·b2) + (z3+z3')·b3", of triangle t with the b or the a of its corners
   abbrev pub both : ℕ → Float
@@ -134,7 +107,7 @@ module _ (g : Given) where
 
   -- U' and V' of node i
   unfoldable pub flowAt : ℕ → Flow
-  flowAt i = flowOf (g .p) (kindOf i) (pushOf (node i) (g .wind) (g .forcing) (S i) (rise i) (Px i) (Py i))
+  flowAt i = flowOf (g .p) (kindOf i) (pushOf (node i) (g .wind) (g .forcing) (floatS i) (rise i) (Px i) (Py i))
 
   abbrev pub U′ : ℕ → Float
   U′ i = flowAt i .u

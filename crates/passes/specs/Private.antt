@@ -9,10 +9,10 @@ use Rattle.lists.specs.Runs.{inRun, runsOf}
 use Rattle.lists.specs.Gather.{Three}
 use Rattle.quantities.specs.declared.Sides.{Sides}
 use Rattle.quantities.specs.Operations.{_⊕_}
-use Rattle.equations.specs.Elevation.{slope}
+use Rattle.triangle.specs.Triangle.{slope}
 use Rattle.mesh.specs.Private.{Shaped}
 use Rattle.bounds.specs.State.{stateRuns}
-use Rattle.passes.specs.declared.velocity.Slope.{Slope}
+use Rattle.passes.specs.declared.velocities.Slope.{Slope}
 use Rattle.passes.specs.Equations.{Given, count, R, rise, Px, Py, U′, V′}
 
 -- what holds after the tests that come before anything is worked out

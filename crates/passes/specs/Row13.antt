@@ -1,20 +1,8 @@
--- Document 01, "Refusal table": row 13.
-use Prim.Native.Nat.{ℕ}
-use lib.Ieee.{Float}
+-- Document 01, "Refusal table": row 13 over a mesh.
 use Rattle.lists.specs.declared.rows.Answer.{Answer}
 use Rattle.lists.specs.Scan.{_then_, scan}
-use Rattle.quantities.specs.declared.Flow.{Flow}
-use Rattle.outcomes.specs.Outcomes.{ofRise, ofEast, ofNorth, answerOf}
+use Rattle.outcomes.specs.Outcomes.{riseRow, flowRow}
 use Rattle.passes.specs.Equations.{Given, count, node, rise, flowAt}
-
--- | 13 | z' beyond 30, H' below 0.1, U' or V' beyond 20 | node |
--- "all z' first (node by node, size, then H')": of node i with depth h and z'
-unfoldable pub riseRow : Float → Float → ℕ → Answer
-riseRow h z′ i = answerOf (ofRise h z′) i
-
--- "then, node by node, U' before V'"
-unfoldable pub flowRow : Flow → ℕ → Answer
-flowRow v i = answerOf (ofEast (v .u)) i then answerOf (ofNorth (v .v)) i
 
 -- "then 13: all z' first (node by node, size, then H'), then, node by node, U' before V'."
 module _ (g : Given) where

@@ -1,9 +1,9 @@
 // The engine by triangles: row 13 and the equations, after what a call asks.
-pub(crate) mod elevation;
+pub(crate) mod elevations;
 pub(crate) mod reading;
 pub(crate) mod state;
 pub(crate) mod sums;
-pub(crate) mod velocity;
+pub(crate) mod velocities;
 
 use bounds::STATE_RUNS;
 use lists::rows;
@@ -52,13 +52,13 @@ fn solve(
     requires { λ g. ⌜ (length (now work) ≡ workRuns * count g) × (length (now sums) ≡ count g) ⌝ }
     ensures { λ g a. ⌜ (a ≡ row13 g) × (a .number ≡ 0 → now (work .exit) ≡ flowRoom g) ⌝ }
 {
-    elevation::assemble(work, sums, x, y, tri, h, kind, p, state, w, f);
-    let rise = elevation::rises(work, sums, x, y, tri, h, kind, p, state, w, f);
+    elevations::assemble(work, sums, x, y, tri, h, kind, p, state, w, f);
+    let rise = elevations::rises(work, sums, x, y, tri, h, kind, p, state, w, f);
     if rise.number != 0 {
         return rise;
     }
-    velocity::slopes(work, x, y, tri, h, kind, p, state, w, f);
-    velocity::flows(work, sums, x, y, tri, h, kind, p, state, w, f)
+    velocities::slopes(work, x, y, tri, h, kind, p, state, w, f);
+    velocities::flows(work, sums, x, y, tri, h, kind, p, state, w, f)
 }
 
 // Run b of `from` into run a of `to`.

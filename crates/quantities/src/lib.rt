@@ -1,4 +1,7 @@
 // What the formulas of document 01 read and give, as records, and the arithmetic on them.
+// The acceleration of gravity, g.
+pub const G: f64 = 9.81;
+
 // The parameters of a run: time step, the report's tau-zero, linear bottom friction K, Coriolis f.
 pub struct Parameters {
     pub dt: f64,

@@ -25,24 +25,20 @@ use Rattle.lists.proofs.slices.clear_whole.Kinds as lists·slices·clear-whole-
 use Rattle.lists.proofs.slices.clear_whole.Reads as lists·slices·clear-whole-reads
 use Rattle.lists.proofs.slices.copy.Kinds as lists·slices·copy-kinds
 use Rattle.lists.proofs.slices.copy.Reads as lists·slices·copy-reads
-use Rattle.equations.proofs.elevation.slope.Kinds as equations·elevation·slope-kinds
-use Rattle.equations.proofs.elevation.slope.Reads as equations·elevation·slope-reads
-use Rattle.equations.proofs.elevation.shares.Kinds as equations·elevation·shares-kinds
-use Rattle.equations.proofs.elevation.shares.Reads as equations·elevation·shares-reads
-use Rattle.equations.proofs.elevation.lumped.Kinds as equations·elevation·lumped-kinds
-use Rattle.equations.proofs.elevation.lumped.Reads as equations·elevation·lumped-reads
-use Rattle.equations.proofs.elevation.rise.Kinds as equations·elevation·rise-kinds
-use Rattle.equations.proofs.elevation.rise.Reads as equations·elevation·rise-reads
-use Rattle.equations.proofs.velocity.flow.Kinds as equations·velocity·flow-kinds
-use Rattle.equations.proofs.velocity.flow.Reads as equations·velocity·flow-reads
-use Rattle.outcomes.proofs.of_rise.Kinds as outcomes·of-rise-kinds
-use Rattle.outcomes.proofs.of_rise.Reads as outcomes·of-rise-reads
-use Rattle.outcomes.proofs.of_east.Kinds as outcomes·of-east-kinds
-use Rattle.outcomes.proofs.of_east.Reads as outcomes·of-east-reads
-use Rattle.outcomes.proofs.of_north.Kinds as outcomes·of-north-kinds
-use Rattle.outcomes.proofs.of_north.Reads as outcomes·of-north-reads
-use Rattle.outcomes.proofs.answer.Kinds as outcomes·answer-kinds
-use Rattle.outcomes.proofs.answer.Reads as outcomes·answer-reads
+use Rattle.triangle.proofs.slope.Kinds as triangle·slope-kinds
+use Rattle.triangle.proofs.slope.Reads as triangle·slope-reads
+use Rattle.triangle.proofs.means_of.Kinds as triangle·means-of-kinds
+use Rattle.triangle.proofs.means_of.Reads as triangle·means-of-reads
+use Rattle.elevation.proofs.shares.Kinds as elevation·shares-kinds
+use Rattle.elevation.proofs.shares.Reads as elevation·shares-reads
+use Rattle.elevation.proofs.rise_of.Kinds as elevation·rise-of-kinds
+use Rattle.elevation.proofs.rise_of.Reads as elevation·rise-of-reads
+use Rattle.velocity.proofs.flow_of.Kinds as velocity·flow-of-kinds
+use Rattle.velocity.proofs.flow_of.Reads as velocity·flow-of-reads
+use Rattle.outcomes.proofs.rise_row.Kinds as outcomes·rise-row-kinds
+use Rattle.outcomes.proofs.rise_row.Reads as outcomes·rise-row-reads
+use Rattle.outcomes.proofs.flow_row.Kinds as outcomes·flow-row-kinds
+use Rattle.outcomes.proofs.flow_row.Reads as outcomes·flow-row-reads
 use Rattle.limits.proofs.is_node.Kinds as limits·is-node-kinds
 use Rattle.limits.proofs.is_node.Reads as limits·is-node-reads
 use Rattle.limits.proofs.parameters.Kinds as limits·parameters-kinds
@@ -151,15 +147,13 @@ pub record EachDetermined : Type 0 where
   pub lists·slices·clear-determined : Determined lists·slices·clear-kinds.ps lists·slices·clear-kinds.r lists·slices·clear-reads.Post
   pub lists·slices·clear-whole-determined : Determined lists·slices·clear-whole-kinds.ps lists·slices·clear-whole-kinds.r lists·slices·clear-whole-reads.Post
   pub lists·slices·copy-determined : Determined lists·slices·copy-kinds.ps lists·slices·copy-kinds.r lists·slices·copy-reads.Post
-  pub equations·elevation·slope-determined : Determined equations·elevation·slope-kinds.ps equations·elevation·slope-kinds.r equations·elevation·slope-reads.Post
-  pub equations·elevation·shares-determined : Determined equations·elevation·shares-kinds.ps equations·elevation·shares-kinds.r equations·elevation·shares-reads.Post
-  pub equations·elevation·lumped-determined : Determined equations·elevation·lumped-kinds.ps equations·elevation·lumped-kinds.r equations·elevation·lumped-reads.Post
-  pub equations·elevation·rise-determined : Determined equations·elevation·rise-kinds.ps equations·elevation·rise-kinds.r equations·elevation·rise-reads.Post
-  pub equations·velocity·flow-determined : Determined equations·velocity·flow-kinds.ps equations·velocity·flow-kinds.r equations·velocity·flow-reads.Post
-  pub outcomes·of-rise-determined : Determined outcomes·of-rise-kinds.ps outcomes·of-rise-kinds.r outcomes·of-rise-reads.Post
-  pub outcomes·of-east-determined : Determined outcomes·of-east-kinds.ps outcomes·of-east-kinds.r outcomes·of-east-reads.Post
-  pub outcomes·of-north-determined : Determined outcomes·of-north-kinds.ps outcomes·of-north-kinds.r outcomes·of-north-reads.Post
-  pub outcomes·answer-determined : Determined outcomes·answer-kinds.ps outcomes·answer-kinds.r outcomes·answer-reads.Post
+  pub triangle·slope-determined : Determined triangle·slope-kinds.ps triangle·slope-kinds.r triangle·slope-reads.Post
+  pub triangle·means-of-determined : Determined triangle·means-of-kinds.ps triangle·means-of-kinds.r triangle·means-of-reads.Post
+  pub elevation·shares-determined : Determined elevation·shares-kinds.ps elevation·shares-kinds.r elevation·shares-reads.Post
+  pub elevation·rise-of-determined : Determined elevation·rise-of-kinds.ps elevation·rise-of-kinds.r elevation·rise-of-reads.Post
+  pub velocity·flow-of-determined : Determined velocity·flow-of-kinds.ps velocity·flow-of-kinds.r velocity·flow-of-reads.Post
+  pub outcomes·rise-row-determined : Determined outcomes·rise-row-kinds.ps outcomes·rise-row-kinds.r outcomes·rise-row-reads.Post
+  pub outcomes·flow-row-determined : Determined outcomes·flow-row-kinds.ps outcomes·flow-row-kinds.r outcomes·flow-row-reads.Post
   pub limits·is-node-determined : Determined limits·is-node-kinds.ps limits·is-node-kinds.r limits·is-node-reads.Post
   pub limits·parameters-determined : Determined limits·parameters-kinds.ps limits·parameters-kinds.r limits·parameters-reads.Post
   pub limits·in-bounds-determined : Determined limits·in-bounds-kinds.ps limits·in-bounds-kinds.r limits·in-bounds-reads.Post

@@ -20,14 +20,14 @@ use Rattle.outcomes.specs.declared.Outcome.{Outcome}
 use Rattle.outcomes.specs.declared.Outcome.the-variants.{Accepted as Fine, Elevation, Column}
 use Rattle.quantities.specs.Operations.{_⊕_}
 use Rattle.quantities.specs.Constants.{tenth}
-use Rattle.outcomes.specs.Outcomes.{ofRise, speed, answerOf}
+use Rattle.outcomes.specs.Outcomes.{ofRise, speed, answerOf, riseRow, flowRow}
 use Rattle.limits.specs.Limits.{inBounds, row12Held, row12New}
 use Rattle.mesh.specs.Lent.{Mesh, N}
 use Rattle.nodes.specs.Rows.{meshRows}
 use Rattle.bounds.specs.State.{nodeOf, runRows}
 use Rattle.bounds.proofs.StateLaws.{AcceptedRun, accepted-run, in-bounds}
 use Rattle.passes.specs.Equations.{Given, count, node, rise, flowAt, U′, V′, nextState}
-use Rattle.passes.specs.Row13.{riseRow, flowRow, row13}
+use Rattle.passes.specs.Row13.{row13}
 use Rattle.passes.specs.Settle.{Rooms, row1Rooms}
 use Rattle.surge.specs.Lent.{Run, windOf}
 use Rattle.surge.specs.Step.{clockRows, givenOf, advance, stepRows}

@@ -11,14 +11,14 @@ use Rattle.quantities.specs.declared.Parameters.{Parameters}
 use Rattle.quantities.specs.declared.Forcing.{Forcing}
 use Rattle.outcomes.specs.declared.Outcome.{Outcome}
 use Rattle.outcomes.specs.declared.Outcome.the-variants.{Accepted, Elevation, Column, East, North}
-use Rattle.outcomes.specs.Outcomes.{ofRise, ofEast, ofNorth, answerOf}
+use Rattle.outcomes.specs.Outcomes.{ofRise, ofEast, ofNorth, answerOf, riseRow, flowRow}
 use Rattle.limits.specs.Limits.{row9, row11, row12Held, row12New}
 use Rattle.mesh.specs.Lent.{Mesh}
 use Rattle.mesh.specs.Rows.{row1, row2, row3, row4, row5, triangleRows, shapeRows}
 use Rattle.nodes.specs.Rows.{row7, row8, nodeRows, meshRows}
 use Rattle.bounds.specs.State.{row10, runRows}
 use Rattle.passes.specs.Equations.{Given, count, node, rise, flowAt}
-use Rattle.passes.specs.Row13.{riseRow, flowRow, riseRows, flowRows, row13}
+use Rattle.passes.specs.Row13.{riseRows, flowRows, row13}
 use Rattle.passes.specs.Settle.{Rooms}
 use Rattle.surge.specs.Lent.{Run}
 use Rattle.surge.specs.Step.{clockRows, stepRows}

@@ -5,9 +5,10 @@ use Rattle.lists.specs.Runs.{runsOf}
 use Rattle.lists.specs.Scan.{row, _then_, scan, some}
 use Rattle.lists.specs.Numbers.{within, decimal, minus}
 use Rattle.lists.specs.Gather.{joined, gathered}
-use Rattle.equations.specs.Elevation.{z*, H as Hi, qx, qy, mean, slope, means, Jx, Jy, corner, shares, L, z′}
-use Rattle.equations.specs.Velocity.{H, H′, r, p, m, q, gx, gy, wx, wy, Rx, Ry, n, U′, V′, flow}
-use Rattle.outcomes.specs.Outcomes.{ofRise, speed}
+use Rattle.triangle.specs.Triangle.{z*, H as Hi, qx, qy, mean, slope, means}
+use Rattle.elevation.specs.Elevation.{Jx, Jy, corner, shares, L, z′, riseOf}
+use Rattle.velocity.specs.Velocity.{H, H′, r, p, m, q, gx, gy, wx, wy, Rx, Ry, n, U′, V′, flow, flowOf}
+use Rattle.outcomes.specs.Outcomes.{ofRise, speed, riseRow, flowRow}
 use Rattle.frames.specs.Bytes.{digit, digits, byte, bytes, worth, allDigits, field, number, sum, check}
 use Rattle.frames.specs.Frames.{text, fieldBytes, checked}
 use Rattle.frames.specs.Reading.{value, isFramed, row20, row21, row22, fault}
@@ -19,8 +20,8 @@ use Rattle.legs.specs.Legs.{isLeg, row6}
 use Rattle.nodes.specs.Rows.{isNamed, row7, row8, nodeRows, meshRows, openRows}
 use Rattle.surge.specs.Open.{openAnswer, openOf}
 use Rattle.bounds.specs.State.{row10, runRows}
-use Rattle.passes.specs.Equations.{riseOf, flowOf, sharesAt, rise, slopeX, slopeY, flowAt, nextState}
-use Rattle.passes.specs.Row13.{riseRow, flowRow, row13}
+use Rattle.passes.specs.Equations.{sharesAt, rise, slopeX, slopeY, flowAt, nextState}
+use Rattle.passes.specs.Row13.{row13}
 use Rattle.surge.specs.Step.{advance, clockRows, stepRows, stepsTo, stepOf}
 use Rattle.saves.specs.Lines.{startOf}
 use Rattle.saves.specs.Save.{lineOf, linesTo, row24, saveAnswer, saveOf}

@@ -1,0 +1,13 @@
+use mathlib.Core.Path.{refl}
+use lib.Ieee.{round, ofBits}
+use Rattle.lists.specs.Numbers.{decimal}
+use Rattle.elevation.specs.Elevation.{Jx}
+use Rattle.elevation.proofs.jx.Statement.{statement}
+use Rattle.elevation.proofs.jx.Tie as tie
+
+returns : tie.Need-returns
+unfolding Jx decimal round ofBits
+returns c = refl
+
+pub jx-spec : {M : Type 1} → statement M
+jx-spec = tie.close (tie.spec returns)

@@ -1,0 +1,13 @@
+use mathlib.Core.Path.{refl}
+use lib.Ieee.{round, ofBits}
+use Rattle.lists.specs.Numbers.{decimal}
+use Rattle.elevation.specs.Elevation.{Jy}
+use Rattle.elevation.proofs.jy.Statement.{statement}
+use Rattle.elevation.proofs.jy.Tie as tie
+
+returns : tie.Need-returns
+unfolding Jy decimal round ofBits
+returns c = refl
+
+pub jy-spec : {M : Type 1} → statement M
+jy-spec = tie.close (tie.spec returns)

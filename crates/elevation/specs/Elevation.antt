@@ -1,0 +1,56 @@
+-- Document 01, "Elevation": what the corners of a triangle receive, and z' of a node.
+use Prim.Native.Nat.{ℕ}
+use mathlib.Core.Bool.{cond}
+use lib.Dec.{eqb}
+use lib.Ieee.{Float, neg}
+use Rattle.quantities.specs.Operations.{_⊕_, _⊖_, _⊗_, _⊘_}
+use Rattle.quantities.specs.Constants.{g, one, two, six}
+use Rattle.quantities.specs.declared.Parameters.{Parameters}
+use Rattle.quantities.specs.declared.Wind.{Wind}
+use Rattle.quantities.specs.declared.Node.{Node}
+use Rattle.quantities.specs.declared.Sides.{Sides}
+use Rattle.quantities.specs.declared.Shares.{Shares}
+use Rattle.triangle.specs.declared.Means.{Means}
+use Rattle.triangle.specs.Triangle.{z*, means}
+
+module _ (run : Parameters) (w : Wind) (m : Means) (D : Float) where
+  open Parameters run using (dt, tau, k as K, f)
+  open Wind w using (x as Wx, y as Wy)
+  open Means m using (ub as Ub, vb as Vb, z as Z, qx as Qx, qy as Qy, sx as Sx, sy as Sy)
+
+  -- "Jx = ((((f·Qy - (g·Sx)/(2·D)) + Wx) - K·Ub) + (Ub·Z)/dt) + tau·Qx"
+  unfoldable pub Jx : Float
+  Jx = ((((f ⊗ Qy ⊖ (g ⊗ Sx) ⊘ (two ⊗ D)) ⊕ Wx) ⊖ K ⊗ Ub) ⊕ (Ub ⊗ Z) ⊘ dt) ⊕ tau ⊗ Qx
+
+  -- "Jy = (((((-f)·Qx - (g·Sy)/(2·D)) + Wy) - K·Vb) + (Vb·Z)/dt) + tau·Qy"
+  unfoldable pub Jy : Float
+  Jy = (((((neg f) ⊗ Qx ⊖ (g ⊗ Sy) ⊘ (two ⊗ D)) ⊕ Wy) ⊖ K ⊗ Vb) ⊕ (Vb ⊗ Z) ⊘ dt) ⊕ tau ⊗ Qy
+
+-- "corner j receives (Jx·bj + Jy·aj)/2 - ((g·hb)·(Gx·bj + Gy·aj))/(2·D)."
+module _ (m : Means) (D : Float) where
+  open Means m using (hb, gx as Gx, gy as Gy)
+
+  unfoldable pub corner : Float → Float → Float → Float → Float
+  corner Jx Jy aj bj = (Jx ⊗ bj ⊕ Jy ⊗ aj) ⊘ two ⊖ ((g ⊗ hb) ⊗ (Gx ⊗ bj ⊕ Gy ⊗ aj)) ⊘ (two ⊗ D)
+
+-- the one record, "used for three corners"
+unfoldable pub shares : Parameters → Wind → Node → Node → Node → Sides → Shares
+shares run w n1 n2 n3 s =
+    let m = means n1 n2 n3 s in
+    let at = corner m (s .d) (Jx run w m (s .d)) (Jy run w m (s .d)) in
+    record { r1 = at (s .a1) (s .b1); r2 = at (s .a2) (s .b2); r3 = at (s .a3) (s .b3) }
+
+-- "L = (S/6)/dt."
+unfoldable pub L : Float → Float → Float
+L S dt = (S ⊘ six) ⊘ dt
+
+-- "New z' = z + ((L·(1/dt - tau/2))·z* + R)/(L·(1/dt + tau/2))."
+module _ (run : Parameters) where
+  open Parameters run using (dt, tau)
+
+  unfoldable pub z′ : Float → Float → Float → Float → Float
+  z′ L z z* R = z ⊕ ((L ⊗ (one ⊘ dt ⊖ tau ⊘ two)) ⊗ z* ⊕ R) ⊘ (L ⊗ (one ⊘ dt ⊕ tau ⊘ two))
+
+-- z' of a node of this kind, from its S and R: "At kind 1, z' is the forcing's elevation."
+unfoldable pub riseOf : Parameters → ℕ → Float → Node → Float → Float → Float
+riseOf run kind elevation c S R = cond (eqb kind 1) elevation (z′ run (L S (run .dt)) (c .z) (z* c) R)

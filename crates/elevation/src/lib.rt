@@ -1,0 +1,65 @@
+// Document 01, "Elevation", on single values: what a triangle gives to its corners, and what a node makes of it.
+use quantities::G;
+use quantities::Node;
+use quantities::Parameters;
+use quantities::Shares;
+use quantities::Sides;
+use quantities::Wind;
+use triangle::Means;
+ghost use mathlib.Core.Path.{_≡_};
+ghost use Rattle.elevation.specs.Elevation.{Jx, Jy, corner, shares, L, z′, riseOf};
+
+fn jx(run: Parameters, w: Wind, m: Means, d: f64) -> f64
+    ensures { λ r. ⌜ r ≡ Jx run w m d ⌝ }
+{
+    ((((run.f * m.qy - (G * m.sx) / (2.0 * d)) + w.x) - run.k * m.ub) + (m.ub * m.z) / run.dt)
+        + run.tau * m.qx
+}
+
+fn jy(run: Parameters, w: Wind, m: Means, d: f64) -> f64
+    ensures { λ r. ⌜ r ≡ Jy run w m d ⌝ }
+{
+    (((((-run.f) * m.qx - (G * m.sy) / (2.0 * d)) + w.y) - run.k * m.vb) + (m.vb * m.z) / run.dt)
+        + run.tau * m.qy
+}
+
+fn corner(m: Means, d: f64, jx: f64, jy: f64, a: f64, b: f64) -> f64
+    ensures { λ r. ⌜ r ≡ corner m d jx jy a b ⌝ }
+{
+    (jx * b + jy * a) / 2.0 - ((G * m.hb) * (m.gx * b + m.gy * a)) / (2.0 * d)
+}
+
+pub fn shares(run: Parameters, w: Wind, n1: Node, n2: Node, n3: Node, s: Sides) -> Shares
+    ensures { λ r. ⌜ r ≡ shares run w n1 n2 n3 s ⌝ }
+{
+    let m = triangle::means_of(n1, n2, n3, s);
+    let x = jx(run, w, m, s.d);
+    let y = jy(run, w, m, s.d);
+    Shares {
+        r1: corner(m, s.d, x, y, s.a1, s.b1),
+        r2: corner(m, s.d, x, y, s.a2, s.b2),
+        r3: corner(m, s.d, x, y, s.a3, s.b3),
+    }
+}
+
+// L, of a node's sum S.
+fn lumped(s: f64, dt: f64) -> f64
+    ensures { λ r. ⌜ r ≡ L s dt ⌝ }
+{
+    (s / 6.0) / dt
+}
+
+// z', of L, z, z* and R.
+fn rise(run: Parameters, l: f64, z: f64, zs: f64, r: f64) -> f64
+    ensures { λ x. ⌜ x ≡ z′ run l z zs r ⌝ }
+{
+    z + ((l * (1.0 / run.dt - run.tau / 2.0)) * zs + r) / (l * (1.0 / run.dt + run.tau / 2.0))
+}
+
+// z' of a node, from its sums S and R. An open node's is chosen last, so that the loop over the nodes has no branch.
+pub fn rise_of(run: Parameters, kind: u8, elevation: f64, c: Node, s: f64, r: f64) -> f64
+    ensures { λ z. ⌜ z ≡ riseOf run kind elevation c s r ⌝ }
+{
+    let rise = rise(run, lumped(s, run.dt), c.z, c.z - c.earlier, r);
+    if kind == 1 { elevation } else { rise }
+}

@@ -1,2 +1,0 @@
-pub mod Elevation
-pub mod Velocity

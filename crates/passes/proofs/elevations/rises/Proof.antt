@@ -1,0 +1,110 @@
+use Prim.Native.Nat.{ℕ, _-_, _*_, _≤_}
+use mathlib.Core.Path.{_≡_, refl, sym, ap, _∙_}
+use native.Mathlib.Omega.{arith}
+use borrow.Author.Needs.{needs}
+use lib.Dec.{eqb}
+use lib.ListN.{length}
+use Rattle.lists.specs.declared.rows.Answer.{Answer}
+use Rattle.lists.specs.Table.{table}
+use Rattle.lists.specs.Scan.{scan}
+use Rattle.lists.proofs.ScanLaws.{all-none, all-more, all-accept}
+use Rattle.lists.proofs.TableLaws.{length-table}
+use Rattle.lists.proofs.RunLaws.{runs-length}
+use Rattle.quantities.specs.declared.Wind.{Wind}
+use Rattle.mesh.specs.Lent.{mesh}
+use Rattle.passes.specs.Equations.{Given, given, count, node, S, rise}
+use Rattle.outcomes.specs.Outcomes.{riseRow}
+use Rattle.passes.specs.Settle.{workRuns}
+use Rattle.passes.specs.Private.{Fits, sumRoom, riseRoom}
+use Rattle.passes.proofs.PassLaws.{risesTo, its-rise, rise-more, rise-none, rise-all}
+use Rattle.passes.proofs.elevations.rises.Statement.{statement}
+use Rattle.passes.proofs.elevations.rises.Tie as tie
+
+-- row 13 of z' at a node
+abbrev rowAt : Given → ℕ → Answer
+rowAt g i = riseRow (node g i .h) (rise g i) i
+
+-- for any wind that the sums are of: none is read here
+abbrev Inv-loop : tie.InvT-loop
+Inv-loop work₀ sums x y tri h kind p state f n all₀ i₀ work all i =
+    (i ≤ n) × ((w : Wind) → let g = given (mesh x y tri h kind) p state w f in work₀ ≡ sumRoom g → sums ≡ table (count g) (S g) → (work ≡ risesTo g i) × (all ≡ eqb (scan (rowAt g) i .number) 0))
+
+abbrev μ-loop : tie.MeasureT-loop
+μ-loop work₀ sums x y tri h kind p state f n all₀ i₀ work all i = n - i
+
+abbrev start : tie.At-loop Inv-loop μ-loop → tie.Start Inv-loop μ-loop
+start l = l .before .before .before .before .before .before .before
+
+abbrev its : tie.Start Inv-loop μ-loop → Wind → Given
+its s w = let a = s .args in given (mesh (a .x .now) (a .y .now) (a .tri .now) (a .h .now) (a .kind .now)) (a .p) (a .state .now) w (a .f)
+
+abbrev here : tie.At-loop Inv-loop μ-loop → Given
+here l = its (start l) (start l .args .w)
+
+fits : (l : tie.At-loop Inv-loop μ-loop) → Fits (here l)
+fits l = start l .pre .0
+
+inv : (l : tie.At-loop Inv-loop μ-loop) → (l .loop .work ≡ risesTo (here l) (l .loop .i)) × (l .loop .all ≡ eqb (scan (rowAt (here l)) (l .loop .i) .number) 0)
+inv l = l .loop .inv .1 (start l .args .w) (start l .pre .1 .0) (start l .pre .1 .1)
+
+long : (l : tie.At-loop Inv-loop μ-loop) → length (l .loop .work) ≡ workRuns * length (start l .args .x .now)
+long l = ap length (inv l .0) ∙ runs-length _ _
+
+same : (l : tie.At-loop Inv-loop μ-loop) → length (l .loop .work) ≡ length (start l .args .work .now)
+same l = long l ∙ sym (ap length (start l .pre .1 .0) ∙ runs-length _ _)
+
+sums-long : (l : tie.At-loop Inv-loop μ-loop) → length (start l .args .sums .now) ≡ length (start l .args .x .now)
+sums-long l = ap length (start l .pre .1 .1) ∙ length-table _ _
+
+-- after the last turn every z' stands in the room
+done : (c : tie.After-loop Inv-loop μ-loop) → c .before .loop .i ≡ count (here (c .before))
+done c = omega arith
+
+all : (c : tie.After-loop Inv-loop μ-loop) → c .before .loop .work ≡ riseRoom (here (c .before))
+all c = inv (c .before) .0 ∙ ap (risesTo (here (c .before))) (done c) ∙ rise-all (here (c .before))
+
+loop-holds : tie.Need-loop-holds Inv-loop μ-loop
+loop-holds c = (omega arith, λ w e _. (e ∙ rise-none (its (c .before .before .before .before .before .before) w), all-none _))
+
+loop-again : tie.Need-loop-again Inv-loop μ-loop
+loop-again c =
+    let a = c .before in
+    let z = a .before in
+    let s = z .before .before .before in
+    let k = s .before .before in
+    let t = k .before in
+    let l = t .before in
+    let h = t .loop-test .taken in (
+      omega (arith, h),
+      λ w e q.
+          let g = its (start l) w in
+          let v = l .loop .inv .1 w e q in
+          let y = fits l in
+          let z′ : Fits g = record { shape = y .shape; state = y .state } in
+          let r = its-rise g z′ (l .loop .i) h q (v .0) (k .node-of .ensures) (s .sum-of .ensures) (z .rise-of .ensures) in
+          let asked = a .rise-row .ensures ∙ (λ j. riseRow (k .node-of .ensures j .h) (r j) (l .loop .i)) in
+          (rise-more g z′ (l .loop .i) h (v .0) r, all-more (rowAt g) _ (v .1) (ap (λ (a : Answer). eqb (a .number) 0) asked)),
+    )
+
+returns : tie.Need-returns Inv-loop μ-loop
+returns c =
+    let d = c .before .before in
+    (c .accept .ensures ∙ all-accept (rowAt (here (d .before))) _ (inv (d .before) .1) (c .before .if1 .taken) ∙ ap (scan _) (done d), all d)
+
+returns-2 : tie.Need-returns-2 Inv-loop μ-loop
+returns-2 c = let d = c .before .before .before in (c .refused-rise .ensures (here (d .before)) refl (all d) refl, all d)
+
+pub rises-spec : {M : Type 1} → statement M
+rises-spec =
+    tie.close
+    (tie.spec Inv-loop μ-loop loop-holds (λ c κs. let z = fits (c .before) in (c .loop-test .taken, z .shape .sized .h, z .state)) (λ c. search needs)
+    (λ c. let t = c .before .before in omega (arith, sums-long (t .before), t .loop-test .taken)) (λ c κs. tt)
+    (λ c. let t = c .before .before .before .before in omega (arith, fits (t .before) .shape .sized .kind, t .loop-test .taken)) (λ c. search needs)
+    (λ c. search needs) (λ c. search needs)
+    (λ c. let t = c .before .before .before .before .before in omega (arith, long (t .before), t .loop-test .taken)) (λ c κs. tt)
+    (λ c. search needs) (λ c. search needs) (λ c. search needs)
+    (λ c. let t = c .before .before .before .before .before .before in omega (arith, long (t .before), t .loop-test .taken)) (λ c κs. tt)
+    (λ c. let t = c .before .before .before .before .before .before .before .before in record { fits = omega (arith, t .loop-test .taken, fits (t .before) .shape .sized .most-nodes) })
+    (λ c. omega arith) loop-again (λ c κs. tt)
+    (λ c κs. let l = c .before .before .before in (fits l .shape .sized .h, long l)) (λ c. same (c .before .before .before)) returns
+    (λ c. same (c .before .before .before .before)) returns-2)

@@ -1,0 +1,45 @@
+use Prim.Native.Nat.{ℕ, _-_, _≤_, _<_}
+use mathlib.Core.Path.{_≡_, sym, _∙_}
+use native.Mathlib.Omega.{arith}
+use borrow.Author.Count.{below-none, below-more}
+use borrow.Author.Needs.{needs}
+use Rattle.lists.specs.Runs.{inRun}
+use Rattle.lists.specs.declared.rows.Answer.{Answer}
+use Rattle.lists.proofs.ScanLaws.{scan-none, scan-hit, same-number, other-number}
+use Rattle.outcomes.specs.Outcomes.{flowRow}
+use Rattle.passes.proofs.PassLaws.{flows-read}
+use Rattle.passes.proofs.velocities.refused_flow.Statement.{statement}
+use Rattle.passes.proofs.velocities.refused_flow.Tie as tie
+
+abbrev Inv-loop : tie.InvT-loop
+Inv-loop n work i₀ i = (i ≤ n) × ((k : ℕ) → k < i → flowRow (record { u = inRun n 1 work k; v = inRun n 2 work k }) k .number ≡ 0)
+
+abbrev μ-loop : tie.MeasureT-loop
+μ-loop n work i₀ i = n - i
+
+abbrev row : tie.At-loop Inv-loop μ-loop → ℕ → Answer
+row l k = let a = l .before .before .args in flowRow (record { u = inRun (a .n) 1 (a .work .now) k; v = inRun (a .n) 2 (a .work .now) k }) k
+
+returns : tie.Need-returns Inv-loop μ-loop
+returns c =
+    let e = c .before .before .flow-row .ensures in
+    let t = c .before .before .before .before .before in
+    let l = t .before in
+    λ g ew en. e ∙ sym (scan-hit (row l) _ _ (t .loop-test .taken) (l .loop .inv .1) (other-number e (c .if1 .taken))) ∙ flows-read g ew en
+
+loop-again : tie.Need-loop-again Inv-loop μ-loop
+loop-again c =
+    let b = c .before .before in
+    (search needs, below-more _ _ (b .before .before .before .before .loop .inv .1) (same-number (b .flow-row .ensures) (c .if1 .left)))
+
+returns-2 : tie.Need-returns-2 Inv-loop μ-loop
+returns-2 c =
+    let l = c .before .before in
+    λ g ew en. c .accept .ensures ∙ sym (scan-none (row l) _ (λ k h. l .loop .inv .1 k (omega arith))) ∙ flows-read g ew en
+
+pub refused-flow-spec : {M : Type 1} → statement M
+refused-flow-spec =
+    tie.close
+    (tie.spec Inv-loop μ-loop (λ c. (search needs, below-none _)) (λ c. search needs) (λ c. search needs) (λ c. search needs) (λ c. search needs)
+    (λ c. search needs) (λ c. search needs) (λ c. search needs) (λ c. search needs) (λ c κs. tt) returns (λ c. search needs) (λ c. omega arith) loop-again
+    (λ c κs. tt) returns-2)

@@ -1,0 +1,92 @@
+-- Document 01, "Velocity": the pair U', V' of one node. Its U and V are u and v here: antt keeps the word V for itself.
+use Prim.Native.Nat.{ℕ}
+use mathlib.Core.Bool.{cond}
+use lib.Dec.{eqb}
+use lib.Ieee.{Float}
+use Rattle.lists.specs.Numbers.{plus0}
+use Rattle.quantities.specs.Operations.{_⊕_, _⊖_, _⊗_, _⊘_}
+use Rattle.quantities.specs.Constants.{g, one, two}
+use Rattle.quantities.specs.declared.Parameters.{Parameters}
+use Rattle.quantities.specs.declared.Wind.{Wind}
+use Rattle.quantities.specs.declared.Forcing.{Forcing}
+use Rattle.quantities.specs.declared.Node.{Node}
+use Rattle.quantities.specs.declared.Push.{Push}
+use Rattle.quantities.specs.declared.Flow.{Flow}
+
+module _ (run : Parameters) (node : Push) where
+  open Parameters run using (dt, k as K, f)
+  open Push node using (h, z, rise as z′, u, v, px as Px, py as Py, s as S, wx as Wx, wy as Wy, «wx_new» as Wx′, «wy_new» as Wy′)
+
+  -- "H = h+z, H' = h+z'."
+  unfoldable pub H : Float
+  H = h ⊕ z
+
+  unfoldable pub H′ : Float
+  H′ = h ⊕ z′
+
+  -- "r = (dt·K)/(2·H'), p = 1+r, m = 1-r, q = (f·dt)/2."
+  unfoldable pub r : Float
+  r = (dt ⊗ K) ⊘ (two ⊗ H′)
+
+  unfoldable pub p : Float
+  p = one ⊕ r
+
+  unfoldable pub m : Float
+  m = one ⊖ r
+
+  unfoldable pub q : Float
+  q = (f ⊗ dt) ⊘ two
+
+  -- "gx = ((g·dt)·Px)/(2·S), wx = (dt·(Wx'/H' + Wx/H))/2, likewise y."
+  unfoldable pub gx : Float
+  gx = ((g ⊗ dt) ⊗ Px) ⊘ (two ⊗ S)
+
+  unfoldable pub gy : Float
+  gy = ((g ⊗ dt) ⊗ Py) ⊘ (two ⊗ S)
+
+  unfoldable pub wx : Float
+  wx = (dt ⊗ (Wx′ ⊘ H′ ⊕ Wx ⊘ H)) ⊘ two
+
+  unfoldable pub wy : Float
+  wy = (dt ⊗ (Wy′ ⊘ H′ ⊕ Wy ⊘ H)) ⊘ two
+
+  -- "Rx = ((m·U + q·V) - gx) + wx, Ry = ((m·V - q·U) - gy) + wy, n = p·p + q·q."
+  unfoldable pub Rx : Float
+  Rx = ((m ⊗ u ⊕ q ⊗ v) ⊖ gx) ⊕ wx
+
+  unfoldable pub Ry : Float
+  Ry = ((m ⊗ v ⊖ q ⊗ u) ⊖ gy) ⊕ wy
+
+  unfoldable pub n : Float
+  n = p ⊗ p ⊕ q ⊗ q
+
+  -- "U' = (p·Rx + q·Ry)/n, V' = (p·Ry - q·Rx)/n."
+  unfoldable pub U′ : Float
+  U′ = (p ⊗ Rx ⊕ q ⊗ Ry) ⊘ n
+
+  unfoldable pub V′ : Float
+  V′ = (p ⊗ Ry ⊖ q ⊗ Rx) ⊘ n
+
+  unfoldable pub flow : Flow
+  flow = record { u = U′; v = V′ }
+
+-- of a node of this kind: "At kind 2 both are +0."
+unfoldable pub flowOf : Parameters → ℕ → Push → Flow
+flowOf run kind x = cond (eqb kind 2) (record { u = plus0; v = plus0 }) (flow run x)
+
+-- from the present wind and the forcing's new one
+abbrev pub pushOf : Node → Wind → Forcing → Float → Float → Float → Float → Push
+pushOf c w f s rise px py = record {
+  h = c .h;
+  z = c .z;
+  rise = rise;
+  u = c .u;
+  v = c .v;
+  px = px;
+  py = py;
+  s = s;
+  wx = w .x;
+  wy = w .y;
+  «wx_new» = f .wx;
+  «wy_new» = f .wy;
+}

@@ -1,0 +1,67 @@
+// Document 01, "Velocity", on single values: the pair U', V' of one node.
+use quantities::Flow;
+use quantities::Forcing;
+use quantities::G;
+use quantities::Node;
+use quantities::Parameters;
+use quantities::Push;
+use quantities::Wind;
+ghost use mathlib.Core.Path.{_≡_};
+ghost use Rattle.velocity.specs.Velocity.{flow, flowOf, pushOf};
+
+// The two are solved as a pair: each is made from Rx and Ry, and V' never from U'.
+fn flow(run: Parameters, node: Push) -> Flow
+    ensures { λ x. ⌜ x ≡ flow run node ⌝ }
+{
+    let column = node.h + node.z;
+    let column_new = node.h + node.rise;
+    let r = (run.dt * run.k) / (2.0 * column_new);
+    let p = 1.0 + r;
+    let m = 1.0 - r;
+    let q = (run.f * run.dt) / 2.0;
+    let gx = ((G * run.dt) * node.px) / (2.0 * node.s);
+    let gy = ((G * run.dt) * node.py) / (2.0 * node.s);
+    let wx = (run.dt * (node.wx_new / column_new + node.wx / column)) / 2.0;
+    let wy = (run.dt * (node.wy_new / column_new + node.wy / column)) / 2.0;
+    let rx = ((m * node.u + q * node.v) - gx) + wx;
+    let ry = ((m * node.v - q * node.u) - gy) + wy;
+    let n = p * p + q * q;
+    let u = (p * rx + q * ry) / n;
+    let v = (p * ry - q * rx) / n;
+    Flow { u, v }
+}
+
+// U' and V' of a node, from its sum S, its z', Px and Py. A held land node's are chosen last, so that the loop over the nodes has no branch.
+pub fn flow_of(
+    run: Parameters,
+    kind: u8,
+    c: Node,
+    w: Wind,
+    f: Forcing,
+    s: f64,
+    rise: f64,
+    px: f64,
+    py: f64,
+) -> Flow
+    ensures { λ x. ⌜ x ≡ flowOf run kind (pushOf c w f s rise px py) ⌝ }
+{
+    let node = Push {
+        h: c.h,
+        z: c.z,
+        rise,
+        u: c.u,
+        v: c.v,
+        px,
+        py,
+        s,
+        wx: w.x,
+        wy: w.y,
+        wx_new: f.wx,
+        wy_new: f.wy,
+    };
+    let free = flow(run, node);
+    let held = kind == 2;
+    let u = if held { 0.0 } else { free.u };
+    let v = if held { 0.0 } else { free.v };
+    Flow { u, v }
+}
