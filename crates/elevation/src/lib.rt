@@ -1,4 +1,4 @@
-// Document 01, "Elevation", on single values: what a triangle gives to its corners, and what a node makes of it.
+// The formulas of "Elevation" on single values: what a triangle gives to its corners, and what a node makes of it.
 use quantities::G;
 use quantities::Node;
 use quantities::Parameters;

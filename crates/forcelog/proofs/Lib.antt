@@ -1,6 +1,5 @@
 pub mod LogLaws
 pub mod MeshLaws
-pub mod WordLaws
 pub mod PieceLaws
 pub mod EmptyLaws
 pub mod SavableLaws

@@ -6,8 +6,6 @@ use surge::Clock;
 ghost use mathlib.Core.Path.{_≡_};
 ghost use Rattle.saves.specs.Save.{saveOut};
 ghost use Rattle.forcelog.specs.Log.{coldLog, stepped, refusedAt, afterStep, takeOf, endOf};
-ghost use Rattle.forcelog.specs.Printed.{refusal, words};
-ghost use Rattle.forcelog.specs.Private.{joined};
 ghost use Prim.Native.Nat.{_<_};
 
 // Mesh T.
@@ -39,15 +37,6 @@ pub struct Log {
 pub struct Took {
     pub answer: Answer,
     pub log: Log,
-}
-
-// Room for every refusal.
-const ROOM: usize = 53;
-
-// A text while it is printed: its bytes, 0 past its length.
-pub struct Words {
-    pub bytes: [u8; ROOM],
-    pub len: usize,
 }
 
 // Mesh T opened, and no line taken.
@@ -136,43 +125,4 @@ pub fn end(text: &mut [u8], log: Log) -> Answer
 {
     let state = log.state;
     saves::save(text, &state, &X, &Y, &TRI, &H, &KIND, P, log.clock)
-}
-
-// The text with `part` after it; unchanged where there is no room.
-fn with(text: Words, part: &[u8]) -> Words
-    ensures { λ r. ⌜ r ≡ joined text (now (part .entry)) ⌝ }
-{
-    let at = text.len;
-    let n = part.len();
-    if ROOM < n {
-        return text;
-    }
-    if ROOM - n < at {
-        return text;
-    }
-    let mut bytes = text.bytes;
-    for k in 0..n {
-        bytes[at + k] = part[k];
-    }
-    let len = at + n;
-    Words { bytes, len }
-}
-
-// `refused R at P` and a line feed.
-pub fn refusal(answer: Answer) -> Words
-    ensures { λ r. ⌜ r ≡ words (refusal answer) ⌝ }
-{
-    let mut number = [0u8; 20];
-    let mut place = [0u8; 20];
-    let r = io::decimal(answer.number as u64, &mut number);
-    let p = io::decimal(answer.place as u64, &mut place);
-    let text = Words {
-        bytes: [0u8; ROOM],
-        len: 0,
-    };
-    let text = with(text, b"refused ");
-    let text = with(text, &number[..r]);
-    let text = with(text, b" at ");
-    let text = with(text, &place[..p]);
-    with(text, b"\n")
 }

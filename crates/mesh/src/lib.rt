@@ -1,4 +1,4 @@
-// The mesh as it is lent: rows 1 to 5 of the refusal table, in the document's order.
+// The mesh as it is lent, and rows 1 to 5 of the refusal table, in the document's order.
 pub mod reading;
 pub(crate) mod triangles;
 

@@ -69,7 +69,7 @@ fn print(text: &[u8]) {
 }
 
 fn print_refusal(answer: Answer) {
-    let words = forcelog::refusal(answer);
+    let words = refusals::refusal(answer);
     let bytes = words.bytes;
     let len = words.len;
     print(&bytes[..len]);

@@ -106,12 +106,12 @@ each-determined = record {
         ap (λ (o : Taken). o .answer .number) e,
         λ i. (e i .answer .place, (e i .answer .value, (e i .forcing .elevation, (e i .forcing .wx, (e i .forcing .wy, (tt, (tt, tt))))))),
       );
+  refusals·refusal-determined = λ κs a x y v w p q. (same p q, refl);
   forcelog·cold-determined = λ κs a x y v w p q. (same p q, refl);
   forcelog·take-determined = λ κs a x y v w p q. (same p q, refl);
   forcelog·end-determined = λ κs a x y v w p q.
       let e : saveOut x (v .0) ≡ saveOut y (w .0) = same p q in
       (ap (λ (o : SaveOut). o .answer) e, λ i. (e i .text, (tt, tt)));
-  forcelog·refusal-determined = λ κs a x y v w p q. (same p q, refl);
 }
 
 pub each-call-asks-nothing : EachCallAsksNothing

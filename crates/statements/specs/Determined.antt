@@ -121,14 +121,14 @@ use Rattle.capi.proofs.surge_load.Kinds as capi·surge-load-kinds
 use Rattle.capi.proofs.surge_load.Reads as capi·surge-load-reads
 use Rattle.capi.proofs.surge_read_forcing.Kinds as capi·surge-read-forcing-kinds
 use Rattle.capi.proofs.surge_read_forcing.Reads as capi·surge-read-forcing-reads
+use Rattle.refusals.proofs.refusal.Kinds as refusals·refusal-kinds
+use Rattle.refusals.proofs.refusal.Reads as refusals·refusal-reads
 use Rattle.forcelog.proofs.cold.Kinds as forcelog·cold-kinds
 use Rattle.forcelog.proofs.cold.Reads as forcelog·cold-reads
 use Rattle.forcelog.proofs.take.Kinds as forcelog·take-kinds
 use Rattle.forcelog.proofs.take.Reads as forcelog·take-reads
 use Rattle.forcelog.proofs.end.Kinds as forcelog·end-kinds
 use Rattle.forcelog.proofs.end.Reads as forcelog·end-reads
-use Rattle.forcelog.proofs.refusal.Kinds as forcelog·refusal-kinds
-use Rattle.forcelog.proofs.refusal.Reads as forcelog·refusal-reads
 
 -- ps and r are the kinds of a function's parameters and of its result, and Post is its `ensures`. At the same arguments a, two results
 -- x and y, with the lent slices left as v and w, that both meet the `ensures` are the same, and so are the slices.
@@ -195,10 +195,10 @@ pub record EachDetermined : Type 0 where
   pub capi·surge-save-determined : Determined capi·surge-save-kinds.ps capi·surge-save-kinds.r capi·surge-save-reads.Post
   pub capi·surge-load-determined : Determined capi·surge-load-kinds.ps capi·surge-load-kinds.r capi·surge-load-reads.Post
   pub capi·surge-read-forcing-determined : Determined capi·surge-read-forcing-kinds.ps capi·surge-read-forcing-kinds.r capi·surge-read-forcing-reads.Post
+  pub refusals·refusal-determined : Determined refusals·refusal-kinds.ps refusals·refusal-kinds.r refusals·refusal-reads.Post
   pub forcelog·cold-determined : Determined forcelog·cold-kinds.ps forcelog·cold-kinds.r forcelog·cold-reads.Post
   pub forcelog·take-determined : Determined forcelog·take-kinds.ps forcelog·take-kinds.r forcelog·take-reads.Post
   pub forcelog·end-determined : Determined forcelog·end-kinds.ps forcelog·end-kinds.r forcelog·end-reads.Post
-  pub forcelog·refusal-determined : Determined forcelog·refusal-kinds.ps forcelog·refusal-kinds.r forcelog·refusal-reads.Post
 
 -- "Every call takes every mesh, state, forcing and text": Asked, what a function's `requires` asks of its arguments, holds of all of them
 abbrev pub AsksNothing : {n : ℕ} (ps : List (PK n)) → ((κs : Lfts n) → Dens κs ps → Type 0) → Type 0

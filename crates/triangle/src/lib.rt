@@ -1,4 +1,4 @@
-// Document 01, "Elevation": the gradients and means of one triangle, as one record.
+// The gradients and means of one triangle, as one record.
 use quantities::Node;
 use quantities::Sides;
 ghost use mathlib.Core.Path.{_≡_};

@@ -1,4 +1,4 @@
-// Document 01, "Velocity", on single values: the pair U', V' of one node.
+// The formulas of "Velocity" on single values: the pair U', V' of one node.
 use quantities::Flow;
 use quantities::Forcing;
 use quantities::G;

@@ -1,6 +1,6 @@
 use mathlib.Core.Path.{sym}
 use lib.Seq.{length-take-le}
-use Rattle.forcelog.proofs.WordLaws.{words-fit}
+use Rattle.refusals.proofs.WordLaws.{words-fit}
 use borrow.Author.Needs.{needs}
 use Rattle.printing.proofs.print_refusal.Statement.{statement}
 use Rattle.printing.proofs.print_refusal.Tie as tie

@@ -7,10 +7,10 @@ use borrow.Author.Tests.{le-leb, lt-leb}
 use lib.ListN.{length, length-set}
 use lib.Seq.{paste, paste-zero, paste-suc, take-length}
 use Rattle.lines.specs.Building.{laid}
-use Rattle.forcelog.specs.Printed.{roomOfWords}
-use Rattle.forcelog.specs.Private.{joined}
-use Rattle.forcelog.proofs.with.Statement.{statement}
-use Rattle.forcelog.proofs.with.Tie as tie
+use Rattle.refusals.specs.Refusals.{roomOfWords}
+use Rattle.refusals.specs.Private.{joined}
+use Rattle.refusals.proofs.with.Statement.{statement}
+use Rattle.refusals.proofs.with.Tie as tie
 
 abbrev Inv-loop : tie.InvT-loop
 Inv-loop part at n bytes₀ k₀ bytes k = (k ≤ n) × (length bytes ≡ roomOfWords) × (bytes ≡ paste bytes₀ at part k)

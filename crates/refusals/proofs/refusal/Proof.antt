@@ -1,10 +1,10 @@
 use mathlib.Core.Path.{_≡_}
 use borrow.Author.Needs.{needs}
 use lib.ListN.{take}
-use Rattle.forcelog.specs.Printed.{numeral, words}
-use Rattle.forcelog.proofs.WordLaws.{is-numeral, refusal-joined}
-use Rattle.forcelog.proofs.refusal.Statement.{statement}
-use Rattle.forcelog.proofs.refusal.Tie as tie
+use Rattle.refusals.specs.Refusals.{numeral, words}
+use Rattle.refusals.proofs.WordLaws.{is-numeral, refusal-joined}
+use Rattle.refusals.proofs.refusal.Statement.{statement}
+use Rattle.refusals.proofs.refusal.Tie as tie
 
 number : (c : tie.After-decimal) → take (c .decimal .result) (c .decimal .last .1 .0) ≡ numeral (c .before .before .before .args .answer .number)
 number c = is-numeral (c .decimal .last .1 .0) (search needs) (c .decimal .ensures .1 .0) (c .decimal .ensures .1 .1)

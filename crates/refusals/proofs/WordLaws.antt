@@ -13,9 +13,9 @@ use Rattle.io.specs.Digits.{digits, Fewest}
 use Rattle.lists.specs.declared.rows.Answer.{Answer}
 use Rattle.frames.specs.Frames.{lineFeed}
 use Rattle.lines.specs.Building.{laid}
-use Rattle.forcelog.specs.declared.Words.{Words}
-use Rattle.forcelog.specs.Printed.{numeralOf, numeral, refusedWord, atWord, refusal, roomOfWords, words}
-use Rattle.forcelog.specs.Private.{joined}
+use Rattle.refusals.specs.declared.Words.{Words}
+use Rattle.refusals.specs.Refusals.{numeralOf, numeral, refusedWord, atWord, refusal, roomOfWords, words}
+use Rattle.refusals.specs.Private.{joined}
 
 -- ---- the fewest digits that hold a number are its numeral
 digits-numeral : (most k n : ℕ) → k ≤ most → Fewest 10 1 n k → digits 10 k n ≡ numeralOf most n
