@@ -13,7 +13,7 @@ use Rattle.lists.specs.Scan.{refused}
 use Rattle.lists.proofs.ScanLaws.{row-fails, stops, other-number, both-left, both-right}
 use Rattle.frames.specs.Bytes.{worth, isDigit, allDigits}
 use Rattle.frames.specs.Frames.{lineFeed}
-use Rattle.frames.specs.Reading.{isFramed, row20, fault}
+use Rattle.faults.specs.Faults.{isFramed, row20, fault}
 use Rattle.forcings.specs.Forcings.{takenOf}
 use Rattle.forcelog.specs.declared.Log.{Log}
 use Rattle.forcelog.specs.Log.{coldLog, refusedAt, takeOf}

@@ -7,7 +7,8 @@ use lib.Dec.{eqb}
 use Rattle.lists.specs.declared.rows.Answer.{Answer}
 use Rattle.lists.specs.Numbers.{plus0}
 use Rattle.frames.specs.Frames.{Layout, digitsOf, byteOf}
-use Rattle.frames.specs.Reading.{float, fault}
+use Rattle.frames.specs.Reading.{float}
+use Rattle.faults.specs.Faults.{fault}
 use Rattle.quantities.specs.declared.Forcing.{Forcing}
 use Rattle.forcings.specs.declared.Taken.{Taken}
 

@@ -15,7 +15,7 @@ pub struct Taken {
 pub fn read_forcing(line: &[u8], expected: u32) -> Taken
     ensures { λ r. ⌜ r ≡ takenOf (now (line .entry)) expected ⌝ }
 {
-    let answer = reading::fault(line, 56, 16, expected as u64, 0);
+    let answer = faults::fault(line, 56, 16, expected as u64, 0);
     if answer.number != 0 {
         return Taken {
             answer,

@@ -1,24 +1,22 @@
--- The way back, once over a frame's fields and its line's length: its line is read without fault, and its fields come back.
-use Prim.Native.Nat.{ℕ, suc, _%_, _^_, _<_}
+-- The way back, once over a frame's fields and its line's length: its fields come back.
+use Prim.Native.Nat.{ℕ, suc, _^_, _<_}
 use mathlib.Core.Path.{_≡_, refl, ap, _∙_}
 use mathlib.Core.List.{List, [], _∷_, _++_, append-assoc}
 use mathlib.Core.Bool.{Bool, true, false}
 use native.Mathlib.Nat.{one-le-pow}
 use native.Mathlib.Omega.{arith}
-use borrow.Author.Tests.{eq-eqb, le-leb}
+use borrow.Author.Tests.{le-leb}
 use lib.Dec.{T, lit<, lit≤, leb}
-use lib.ListN.{length, take, drop, getD}
-use lib.Seq.{take-at, drop-at, getD-at, split-at}
+use lib.ListN.{length, take, drop}
+use lib.Seq.{take-at, drop-at, split-at}
 use lib.Ieee.{Float, binary64, fits, ofBits}
-use Rattle.lists.specs.Scan.{accepted, _then_}
-use Rattle.lists.proofs.ScanLaws.{row-holds}
 use Rattle.patterns.proofs.PatternLaws.{pattern-fits, float-back}
-use Rattle.frames.specs.Bytes.{digits, allDigits, field, check}
-use Rattle.frames.specs.Frames.{Field, Frame, wide, opening, allFields, fieldBytes, checked, frameBytes, lineFeed, text, bits, digitsOf, byteOf}
+use Rattle.frames.specs.Bytes.{field, check}
+use Rattle.frames.specs.Frames.{Field, Frame, wide, opening, allFields, fieldBytes, checked, frameBytes, text, bits, byteOf}
 use Rattle.frames.specs.Private.{InField, widthsOf, fieldAt}
-use Rattle.frames.specs.Reading.{value, float, isFramed, row20, row21, row22, fault}
-use Rattle.frames.proofs.ByteLaws.{digits-right, digits-length, field-length, number-back, number-small}
-use Rattle.frames.proofs.FrameLaws.{fields-before, fields-join, checked-sum, frame-bytes, line-digits, text-length, text-bytes}
+use Rattle.frames.specs.Reading.{value, float}
+use Rattle.frames.proofs.ByteLaws.{field-length, number-back, number-small}
+use Rattle.frames.proofs.FrameLaws.{fields-before, fields-join, text-bytes}
 
 -- ---- a value that is read is small enough for its width, on every line
 pub value-small : (line : List ℕ) (at width : ℕ) → value line at width < 256 ^ width
@@ -32,7 +30,7 @@ value-small line at width = go (leb width 8) refl
 -- ---- a frame's line
 module _ (f : Frame) where
   -- a field x that stands after the fields a
-  value-back : (a : List Field) (x : Field) (b : List Field) → allFields f ≡ a ++ x ∷ b → InField x → value (text f) (length (fieldBytes a)) (x .width) ≡ x .value
+  pub value-back : (a : List Field) (x : Field) (b : List Field) → allFields f ≡ a ++ x ∷ b → InField x → value (text f) (length (fieldBytes a)) (x .width) ≡ x .value
   unfolding value checked fieldBytes
   value-back a x b e h =
       let y = field (x .width) (x .value) in
@@ -58,27 +56,3 @@ module _ (f : Frame) where
   float-field j l x q h =
       let back = field-back j l (rw q (record { narrow = lit≤ tt; small = pattern-fits x h })) in
       ap (ofBits binary64) (rw q at back) ∙ float-back x h
-
-  even : digitsOf (widthsOf (f .fields)) % 2 ≡ 0
-  even = rw (← line-digits f, digits-length (frameBytes f)) (omega arith)
-
-  feed : getD (text f) (digitsOf (widthsOf (f .fields))) 0 ≡ lineFeed
-  unfolding text
-  feed = getD-at (digits (frameBytes f)) lineFeed [] 0 (digitsOf (widthsOf (f .fields))) (line-digits f)
-
-  right : allDigits (text f) ≡ true
-  unfolding text allDigits
-  right = digits-right (frameBytes f) (lineFeed ∷ []) (frame-bytes f)
-
-  -- a frame's line is read without fault, by its own digits, kind and sequence
-  pub line-fine : (place : ℕ) → f .kind < 256 → f .sequence < 65536 → fault (text f) (digitsOf (widthsOf (f .fields))) (f .kind) (f .sequence) place ≡ accepted
-  unfolding fault row20 row21 row22 isFramed _then_ fieldBytes field text allDigits
-  line-fine place k s =
-      let due = digitsOf (widthsOf (f .fields)) in
-      let kind : value (text f) 0 1 ≡ f .kind = value-back [] (wide 1 (f .kind)) (wide 2 (f .sequence) ∷ f .fields) refl (record { narrow = lit≤ tt; small = k }) in
-      let seq : value (text f) 1 2 ≡ f .sequence = value-back (wide 1 (f .kind) ∷ []) (wide 2 (f .sequence)) (f .fields) refl (record { narrow = lit≤ tt; small = s }) in
-      let even : due % 2 ≡ 0 = rw (← line-digits f, digits-length (frameBytes f)) (omega arith) in
-      let feed : getD (text f) due 0 ≡ lineFeed = getD-at (digits (frameBytes f)) lineFeed [] 0 due (line-digits f) in
-      let right : allDigits (text f) ≡ true = digits-right (frameBytes f) (lineFeed ∷ []) (frame-bytes f) in
-      rw (eq-eqb _ _ (text-length f), eq-eqb _ _ even, eq-eqb _ _ feed, right, text-bytes f, eq-eqb _ _ (checked-sum (fieldBytes (allFields f))), eq-eqb _ _ kind, eq-eqb _ _ seq)
-      (rw (row-holds {test = true} 20 place refl, row-holds {test = true} 21 place refl, row-holds {test = true} 22 place refl))

@@ -14,8 +14,10 @@ use lib.Ieee.{Float, nan}
 use Rattle.lists.specs.Scan.{accepted}
 use Rattle.lists.proofs.ScanLaws.{row-holds, then-next}
 use Rattle.frames.specs.Frames.{text, digitsOf}
-use Rattle.frames.specs.Reading.{value, fault}
-use Rattle.frames.proofs.BackLaws.{line-fine, field-back, float-field}
+use Rattle.frames.specs.Reading.{value}
+use Rattle.faults.specs.Faults.{fault}
+use Rattle.frames.proofs.BackLaws.{field-back, float-field}
+use Rattle.faults.proofs.FaultLaws.{line-fine}
 use Rattle.surge.specs.declared.Clock.{Clock}
 use Rattle.saves.specs.Lines.{head, stateValues, nodeLine, end, nodeLayout, endLayout, layoutAt, due}
 use Rattle.loads.specs.Storable.{StorableClock, StorableState}

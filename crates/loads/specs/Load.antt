@@ -12,7 +12,8 @@ use Rattle.lists.specs.Scan.{row, _then_, scan}
 use Rattle.quantities.specs.declared.Parameters.{Parameters}
 use Rattle.quantities.specs.declared.Node.{Node}
 use Rattle.frames.specs.Frames.{byteOf}
-use Rattle.frames.specs.Reading.{value, float, fault}
+use Rattle.frames.specs.Reading.{value, float}
+use Rattle.faults.specs.Faults.{fault}
 use Rattle.surge.specs.declared.Clock.{Clock}
 use Rattle.mesh.specs.Lent.{Mesh, N, E}
 use Rattle.surge.specs.Lent.{After, after, windOf}

@@ -90,7 +90,7 @@ fn line_row(n: usize, e: usize, text: &[u8], j: usize) -> Answer
 {
     let line = line_at(n, text, j);
     let its = due(n, j);
-    let fault = reading::fault(line, its.digits, its.kind, j as u64, j);
+    let fault = faults::fault(line, its.digits, its.kind, j as u64, j);
     rows::first(fault, counts(n, e, line, j))
 }
 

@@ -63,8 +63,8 @@ use Rattle.frames.proofs.reading.float_at.Kinds as frames·reading·float-at-ki
 use Rattle.frames.proofs.reading.float_at.Reads as frames·reading·float-at-reads
 use Rattle.frames.proofs.reading.values.Kinds as frames·reading·values-kinds
 use Rattle.frames.proofs.reading.values.Reads as frames·reading·values-reads
-use Rattle.frames.proofs.reading.fault.Kinds as frames·reading·fault-kinds
-use Rattle.frames.proofs.reading.fault.Reads as frames·reading·fault-reads
+use Rattle.faults.proofs.fault.Kinds as faults·fault-kinds
+use Rattle.faults.proofs.fault.Reads as faults·fault-reads
 use Rattle.lines.proofs.Line.begin.Kinds as lines·Line·begin-kinds
 use Rattle.lines.proofs.Line.begin.Reads as lines·Line·begin-reads
 use Rattle.lines.proofs.Line.append.Kinds as lines·Line·append-kinds
@@ -166,7 +166,7 @@ pub record EachDetermined : Type 0 where
   pub frames·reading·value-determined : Determined frames·reading·value-kinds.ps frames·reading·value-kinds.r frames·reading·value-reads.Post
   pub frames·reading·float-at-determined : Determined frames·reading·float-at-kinds.ps frames·reading·float-at-kinds.r frames·reading·float-at-reads.Post
   pub frames·reading·values-determined : Determined frames·reading·values-kinds.ps frames·reading·values-kinds.r frames·reading·values-reads.Post
-  pub frames·reading·fault-determined : Determined frames·reading·fault-kinds.ps frames·reading·fault-kinds.r frames·reading·fault-reads.Post
+  pub faults·fault-determined : Determined faults·fault-kinds.ps faults·fault-kinds.r faults·fault-reads.Post
   pub lines·Line·begin-determined : Determined lines·Line·begin-kinds.ps lines·Line·begin-kinds.r lines·Line·begin-reads.Post
   pub lines·Line·append-determined : Determined lines·Line·append-kinds.ps lines·Line·append-kinds.r lines·Line·append-reads.Post
   pub lines·Line·seal-determined : Determined lines·Line·seal-kinds.ps lines·Line·seal-kinds.r lines·Line·seal-reads.Post

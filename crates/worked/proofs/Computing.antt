@@ -11,7 +11,8 @@ use Rattle.velocity.specs.Velocity.{H, H′, r, p, m, q, gx, gy, wx, wy, Rx, Ry
 use Rattle.outcomes.specs.Outcomes.{ofRise, speed, riseRow, flowRow}
 use Rattle.frames.specs.Bytes.{digit, digits, byte, bytes, worth, allDigits, field, number, sum, check}
 use Rattle.frames.specs.Frames.{text, fieldBytes, checked}
-use Rattle.frames.specs.Reading.{value, isFramed, row20, row21, row22, fault}
+use Rattle.frames.specs.Reading.{value}
+use Rattle.faults.specs.Faults.{isFramed, row20, row21, row22, fault}
 use Rattle.limits.specs.Limits.{isNode, row9, inBounds, row11, row12Held, row12New}
 use Rattle.mesh.specs.Geometry.{sides, area}
 use Rattle.geometry.specs.Geometry.{allNear, floats}

@@ -1,6 +1,7 @@
-use Rattle.frames.specs.Reading.{tallied, row20, row21, row22, fault}
-use Rattle.frames.proofs.reading.fault.Statement.{statement}
-use Rattle.frames.proofs.reading.fault.Tie as tie
+use Rattle.frames.specs.Reading.{tallied}
+use Rattle.faults.specs.Faults.{row20, row21, row22, fault}
+use Rattle.faults.proofs.fault.Statement.{statement}
+use Rattle.faults.proofs.fault.Tie as tie
 
 returns : tie.Need-returns
 unfolding tallied row20 row21 row22 fault

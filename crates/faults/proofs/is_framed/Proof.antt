@@ -3,9 +3,9 @@ use mathlib.Core.Path.{refl}
 use native.Mathlib.Omega.{arith}
 use borrow.Author.Tests.{ne-eqb}
 use lib.ListN.{length}
-use Rattle.frames.specs.Reading.{isFramed}
-use Rattle.frames.proofs.reading.is_framed.Statement.{statement}
-use Rattle.frames.proofs.reading.is_framed.Tie as tie
+use Rattle.faults.specs.Faults.{isFramed}
+use Rattle.faults.proofs.is_framed.Statement.{statement}
+use Rattle.faults.proofs.is_framed.Tie as tie
 
 pub is-framed-spec : {M : Type 1} → statement M
 unfolding isFramed
