@@ -6,9 +6,9 @@ use mathlib.Core.List.{List}
 use borrow.Author.Tests.{eqb-true, eq-eqb}
 use lib.ListN.{length}
 use lib.Ieee.{Float}
-use Rattle.lists.specs.declared.rows.Answer.{Answer}
-use Rattle.lists.specs.Scan.{accepted, _then_}
-use Rattle.lists.proofs.ScanLaws.{row-holds, row-passed, then-next, then-first, then-rest, scan-none, scan-clean}
+use Rattle.rows.specs.declared.Answer.{Answer}
+use Rattle.rows.specs.Scan.{accepted, _then_}
+use Rattle.rows.proofs.ScanLaws.{row-holds, row-passed, then-next, then-first, then-rest, scan-none, scan-clean}
 use Rattle.quantities.specs.declared.Parameters.{Parameters}
 use Rattle.limits.specs.Limits.{inBounds}
 use Rattle.mesh.specs.Lent.{Mesh, N}

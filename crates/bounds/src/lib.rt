@@ -1,13 +1,12 @@
 // The state: the mesh's rows and row 10, in the document's order.
-use lists::rows;
-use lists::rows::Answer;
 use lists::slices;
 use quantities::Node;
 use quantities::Parameters;
+use rows::Answer;
 ghost use mathlib.Core.Path.{_≡_};
 ghost use Prim.Native.Nat.{_*_, _<_};
 ghost use lib.ListN.{length};
-ghost use Rattle.lists.specs.Scan.{scan};
+ghost use Rattle.rows.specs.Scan.{scan};
 ghost use Rattle.mesh.specs.Lent.{mesh};
 ghost use Rattle.bounds.specs.State.{stateRuns, nodeOf, row10, runRows};
 

@@ -2,7 +2,7 @@
 -- definitions (openOf, stepOf, saveOf, loadOf, takenOf) on these records, and by nothing else.
 use Prim.Native.Nat.{ℕ}
 use lib.Ieee.{Float}
-use Rattle.lists.specs.declared.rows.Answer.{Answer}
+use Rattle.rows.specs.declared.Answer.{Answer}
 use Rattle.quantities.specs.declared.Parameters.{Parameters}
 use Rattle.surge.specs.declared.Clock.{Clock}
 use Rattle.quantities.specs.declared.Forcing.{Forcing}

@@ -4,7 +4,7 @@ use mathlib.Core.Path.{refl, sym, subst}
 use mathlib.Core.List.{List}
 use borrow.Author.Tests.{eq-eqb, ne-eqb}
 use lib.Ieee.{Float}
-use Rattle.lists.proofs.ScanLaws.{then-stop, then-next}
+use Rattle.rows.proofs.ScanLaws.{then-stop, then-next}
 use Rattle.quantities.specs.declared.Parameters.{Parameters}
 use Rattle.surge.specs.declared.Clock.{Clock}
 use Rattle.mesh.specs.Lent.{Mesh}

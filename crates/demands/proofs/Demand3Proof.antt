@@ -8,7 +8,7 @@ use lib.ListN.{length}
 use lib.Ieee.{Float}
 use Rattle.quantities.specs.declared.Parameters.{Parameters}
 use Rattle.mesh.specs.Lent.{Mesh, N}
-use Rattle.lists.specs.Scan.{accepted}
+use Rattle.rows.specs.Scan.{accepted}
 use Rattle.surge.specs.Lent.{Run, run, After, windOf}
 use Rattle.nodes.specs.Rows.{meshRows}
 use Rattle.surge.specs.Open.{openAnswer, openOf}

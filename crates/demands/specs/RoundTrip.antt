@@ -5,7 +5,7 @@ use mathlib.Core.Path.{_≡_}
 use mathlib.Core.List.{List}
 use lib.ListN.{length, take}
 use lib.Ieee.{Float}
-use Rattle.lists.specs.Scan.{accepted}
+use Rattle.rows.specs.Scan.{accepted}
 use Rattle.quantities.specs.declared.Parameters.{Parameters}
 use Rattle.surge.specs.declared.Clock.{Clock}
 use Rattle.mesh.specs.Lent.{Mesh, N}

@@ -8,8 +8,8 @@ use borrow.Author.Tests.{eq-eqb}
 use lib.Dec.{lit≤}
 use lib.ListN.{getD}
 use lib.Seq.{getD-at}
-use Rattle.lists.specs.Scan.{accepted, _then_}
-use Rattle.lists.proofs.ScanLaws.{row-holds}
+use Rattle.rows.specs.Scan.{accepted, _then_}
+use Rattle.rows.proofs.ScanLaws.{row-holds}
 use Rattle.frames.specs.Bytes.{digits, allDigits, field}
 use Rattle.frames.specs.Frames.{Frame, wide, allFields, fieldBytes, frameBytes, lineFeed, text, digitsOf}
 use Rattle.frames.specs.Private.{widthsOf}

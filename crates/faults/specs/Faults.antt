@@ -4,8 +4,8 @@ use mathlib.Core.List.{List}
 use mathlib.Core.Bool.{Bool, _&&_}
 use lib.ListN.{length, getD}
 use lib.Dec.{eqb}
-use Rattle.lists.specs.declared.rows.Answer.{Answer}
-use Rattle.lists.specs.Scan.{row, _then_}
+use Rattle.rows.specs.declared.Answer.{Answer}
+use Rattle.rows.specs.Scan.{row, _then_}
 use Rattle.frames.specs.Bytes.{bytes, allDigits, sum}
 use Rattle.frames.specs.Frames.{lineFeed}
 use Rattle.frames.specs.Reading.{value}

@@ -1,8 +1,7 @@
 // Rows 20 to 22 of the refusal table, of one line.
 use frames::digits;
 use frames::reading;
-use lists::rows;
-use lists::rows::Answer;
+use rows::Answer;
 ghost use mathlib.Core.Path.{_≡_};
 ghost use Rattle.faults.specs.Faults.{isFramed, fault};
 

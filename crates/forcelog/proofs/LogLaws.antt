@@ -5,7 +5,7 @@ use mathlib.Core.Bool.{Bool, true, false, cond}
 use mathlib.Core.List.{List}
 use borrow.Author.Tests.{eqb-true, eqb-false, eq-eqb, ne-eqb}
 use lib.Dec.{eqb}
-use Rattle.lists.proofs.ScanLaws.{row-passed, then-rest, both-right}
+use Rattle.rows.proofs.ScanLaws.{row-passed, then-rest, both-right}
 use Rattle.frames.specs.Reading.{value}
 use Rattle.faults.specs.Faults.{row22, fault}
 use Rattle.frames.proofs.BackLaws.{value-small}

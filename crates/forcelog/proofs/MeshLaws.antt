@@ -2,8 +2,8 @@
 use mathlib.Core.Path.{_≡_, refl}
 use lib.Ieee.{round, le, lt, eq}
 use Rattle.lists.specs.Table.{table, zeros}
-use Rattle.lists.specs.Scan.{accepted, row, _then_, scan, some}
-use Rattle.lists.specs.Numbers.{within, decimal, minus}
+use Rattle.rows.specs.Scan.{accepted, row, _then_, scan, some}
+use Rattle.rows.specs.Numbers.{within, decimal, minus}
 use Rattle.limits.specs.Limits.{isNode, row9}
 use Rattle.surge.specs.Lent.{coldState, coldClock, after}
 use Rattle.mesh.specs.Geometry.{sides}

@@ -8,9 +8,9 @@ use borrow.Author.Tests.{eqb-true, eq-eqb, ne-eqb}
 use lib.Dec.{eqb}
 use lib.ListN.{length, take, drop, getD, length-drop, take-append-drop}
 use lib.Seq.{take-at}
-use Rattle.lists.specs.declared.rows.Answer.{Answer}
-use Rattle.lists.specs.Scan.{refused}
-use Rattle.lists.proofs.ScanLaws.{row-fails, stops, other-number, both-left, both-right}
+use Rattle.rows.specs.declared.Answer.{Answer}
+use Rattle.rows.specs.Scan.{refused}
+use Rattle.rows.proofs.ScanLaws.{row-fails, stops, other-number, both-left, both-right}
 use Rattle.frames.specs.Bytes.{worth, isDigit, allDigits}
 use Rattle.frames.specs.Frames.{lineFeed}
 use Rattle.faults.specs.Faults.{isFramed, row20, fault}

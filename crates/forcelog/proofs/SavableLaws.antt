@@ -8,8 +8,8 @@ use lib.Dec.{lit≤}
 use lib.ListN.{length, drop}
 use lib.Seq.{drop-length}
 use Rattle.lists.specs.Table.{table}
-use Rattle.lists.specs.Scan.{row}
-use Rattle.lists.proofs.ScanLaws.{row-holds, same-number}
+use Rattle.rows.specs.Scan.{row}
+use Rattle.rows.proofs.ScanLaws.{row-holds, same-number}
 use Rattle.limits.specs.Limits.{row11, row12Held}
 use Rattle.mesh.specs.Lent.{N}
 use Rattle.surge.specs.Lent.{run, After, windOf}

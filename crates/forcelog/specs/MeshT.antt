@@ -2,7 +2,7 @@
 use mathlib.Core.List.{[], _∷_}
 use lib.IntN.{pos}
 use lib.ListN.{replicate}
-use Rattle.lists.specs.Numbers.{decimal}
+use Rattle.rows.specs.Numbers.{decimal}
 use Rattle.quantities.specs.declared.Parameters.{Parameters}
 use Rattle.mesh.specs.Lent.{Mesh, mesh}
 

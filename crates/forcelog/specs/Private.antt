@@ -1,6 +1,6 @@
 -- What a log is between two lines, for laws and for the contracts of private functions. No public contract cites it.
 use mathlib.Core.Path.{_≡_}
-use Rattle.lists.specs.Scan.{accepted}
+use Rattle.rows.specs.Scan.{accepted}
 use Rattle.limits.specs.Limits.{row12Held}
 use Rattle.bounds.specs.State.{runRows}
 use Rattle.surge.specs.Lent.{windOf}

@@ -1,7 +1,7 @@
 // A log of forcing lines, taken one by one on mesh T: what the printing program does, but for its reading and writing.
-use lists::rows::Answer;
 use quantities::Forcing;
 use quantities::Parameters;
+use rows::Answer;
 use surge::Clock;
 ghost use mathlib.Core.Path.{_≡_};
 ghost use Rattle.saves.specs.Save.{saveOut};

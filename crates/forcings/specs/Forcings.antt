@@ -4,8 +4,8 @@ use Prim.Native.Nat.{ℕ}
 use mathlib.Core.Bool.{cond}
 use mathlib.Core.List.{List, [], _∷_}
 use lib.Dec.{eqb}
-use Rattle.lists.specs.declared.rows.Answer.{Answer}
-use Rattle.lists.specs.Numbers.{plus0}
+use Rattle.rows.specs.declared.Answer.{Answer}
+use Rattle.rows.specs.Numbers.{plus0}
 use Rattle.frames.specs.Frames.{Layout, digitsOf, byteOf}
 use Rattle.frames.specs.Reading.{float}
 use Rattle.faults.specs.Faults.{fault}

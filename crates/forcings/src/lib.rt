@@ -1,7 +1,7 @@
 // Forcing lines.
 use frames::reading;
-use lists::rows::Answer;
 use quantities::Forcing;
+use rows::Answer;
 ghost use mathlib.Core.Path.{_≡_};
 ghost use Rattle.forcings.specs.Forcings.{takenOf};
 

@@ -11,8 +11,8 @@ use borrow.Author.Tests.{lt-ltb, ltb-true, ltb-false, eqb-true}
 use lib.Dec.{lit<, ltb, eqb}
 use lib.ListN.{length, take, drop, getD, length-append, length-drop}
 use lib.Seq.{drop-cons, take-suc, take-all, take-take, getD-drop}
-use Rattle.lists.specs.Scan.{row, _then_, scan}
-use Rattle.lists.proofs.ScanLaws.{row-passed, scan-clean}
+use Rattle.rows.specs.Scan.{row, _then_, scan}
+use Rattle.rows.proofs.ScanLaws.{row-passed, scan-clean}
 use Rattle.frames.specs.Bytes.{digit, worth, isDigit, digits, byte, bytes, allDigits, field, number, sum}
 use Rattle.frames.specs.Private.{areDigits}
 

@@ -11,7 +11,7 @@ use lib.Ieee.{Float, binary64, ofInt}
 use mir.Syntax.{w32, w64}
 use mir.Val.{SFits, toZ, ofZ}
 use mir.Facts.{toZ-ofZ}
-use Rattle.lists.proofs.ScanLaws.{both-left, both-right}
+use Rattle.rows.proofs.ScanLaws.{both-left, both-right}
 use Rattle.geometry.specs.declared.WholeSides.{WholeSides}
 use Rattle.geometry.specs.declared.Places.{Places}
 use Rattle.geometry.specs.Geometry.{near, allNear, D, nearD, counted, floats, nearFloats, sidesAt}

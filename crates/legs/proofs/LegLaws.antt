@@ -9,11 +9,11 @@ use mir.Syntax.{w16}
 use mir.Val.{Fits}
 use lib.Dec.{eqb}
 use lib.ListN.{getD}
-use Rattle.lists.specs.declared.rows.Answer.{Answer}
+use Rattle.rows.specs.declared.Answer.{Answer}
 use Rattle.lists.specs.Gather.{Three}
 use Rattle.lists.specs.Private.{Below}
-use Rattle.lists.specs.Scan.{refused, some}
-use Rattle.lists.proofs.ScanLaws.{row-holds, row-fails, some-none, some-hit}
+use Rattle.rows.specs.Scan.{refused, some}
+use Rattle.rows.proofs.ScanLaws.{row-holds, row-fails, some-none, some-hit}
 use Rattle.mesh.specs.Lent.{corner, corners}
 use Rattle.legs.specs.Legs.{isLeg, legSeen, row6}
 use Rattle.legs.specs.Private.{cornerOf}

@@ -1,12 +1,11 @@
 // The legs of a mesh's triangles: row 6 of the refusal table.
 use geometry::Corners;
-use lists::rows;
-use lists::rows::Answer;
+use rows::Answer;
 ghost use mathlib.Core.Path.{_≡_};
 ghost use Prim.Native.Nat.{_+_, _*_, _/_, _%_, _<_};
 ghost use lib.ListN.{length};
 ghost use Rattle.lists.specs.Private.{Below};
-ghost use Rattle.lists.specs.Scan.{scan};
+ghost use Rattle.rows.specs.Scan.{scan};
 ghost use Rattle.geometry.specs.Private.{nodesOf};
 ghost use Rattle.legs.specs.Legs.{isLeg, row6};
 ghost use Rattle.legs.specs.Private.{cornerOf};

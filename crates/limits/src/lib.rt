@@ -1,12 +1,11 @@
 // The limits of document 01 on single values: what rows 8 to 12 of the refusal table ask of a node, the parameters, a clock and a forcing.
-use lists::rows;
-use lists::rows::Answer;
 use quantities::Node;
 use quantities::Parameters;
 use quantities::Wind;
+use rows::Answer;
 ghost use mathlib.Core.Path.{_≡_};
-ghost use Rattle.lists.specs.Numbers.{within};
-ghost use Rattle.lists.specs.Scan.{row};
+ghost use Rattle.rows.specs.Numbers.{within};
+ghost use Rattle.rows.specs.Scan.{row};
 ghost use Rattle.limits.specs.Limits.{isNode, row9, inBounds, row11, row12Held, row12New};
 
 // Row 8 of one node: its depth and its kind.

@@ -1,4 +1,3 @@
 pub mod TableLaws
 pub mod RunLaws
-pub mod ScanLaws
 pub mod GatherLaws

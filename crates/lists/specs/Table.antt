@@ -3,7 +3,7 @@ use Prim.Native.Nat.{ℕ, zero, suc}
 use mathlib.Core.List.{List, [], _∷_, _++_}
 use lib.ListN.{length, take, drop}
 use lib.Ieee.{Float}
-use Rattle.lists.specs.Numbers.{plus0}
+use Rattle.rows.specs.Numbers.{plus0}
 
 -- f 0, f 1, .. , n of them
 unfoldable pub table : {A : Type 0} → ℕ → (ℕ → A) → List A

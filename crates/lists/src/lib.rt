@@ -1,3 +1,2 @@
-// Lists given by what stands at each place, rows that refuse, and the few functions on slices that every crate shares.
-pub mod rows;
+// Lists given by what stands at each place, and the few functions on slices that every crate shares.
 pub mod slices;

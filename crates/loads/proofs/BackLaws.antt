@@ -11,8 +11,8 @@ use lib.Dec.{ltb, eqb, lit<, lit≤}
 use lib.ListN.{getD}
 use lib.Seq.{take-at, drop-at}
 use lib.Ieee.{Float, nan}
-use Rattle.lists.specs.Scan.{accepted}
-use Rattle.lists.proofs.ScanLaws.{row-holds, then-next}
+use Rattle.rows.specs.Scan.{accepted}
+use Rattle.rows.proofs.ScanLaws.{row-holds, then-next}
 use Rattle.frames.specs.Frames.{text, digitsOf}
 use Rattle.frames.specs.Reading.{value}
 use Rattle.faults.specs.Faults.{fault}

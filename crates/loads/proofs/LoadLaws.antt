@@ -7,8 +7,8 @@ use borrow.Author.Tests.{eqb-true, eqb-false, eq-eqb, ne-eqb}
 use lib.Dec.{eqb}
 use lib.ListN.{length}
 use lib.Ieee.{Float}
-use Rattle.lists.specs.declared.rows.Answer.{Answer}
-use Rattle.lists.proofs.ScanLaws.{row-passed, then-first, then-rest, scan-clean, same-number, other-number}
+use Rattle.rows.specs.declared.Answer.{Answer}
+use Rattle.rows.proofs.ScanLaws.{row-passed, then-first, then-rest, scan-clean, same-number, other-number}
 use Rattle.quantities.specs.declared.Parameters.{Parameters}
 use Rattle.surge.specs.declared.Clock.{Clock}
 use Rattle.mesh.specs.Lent.{Mesh, N}
@@ -16,7 +16,7 @@ use Rattle.surge.specs.Lent.{After, after, windOf}
 use Rattle.nodes.specs.Rows.{meshRows}
 use Rattle.limits.specs.Limits.{inBounds, row12Held}
 use Rattle.bounds.specs.State.{stateRuns, runRows}
-use Rattle.lists.specs.Scan.{accepted}
+use Rattle.rows.specs.Scan.{accepted}
 use Rattle.lists.proofs.RunLaws.{runs-length}
 use Rattle.mesh.proofs.ShapedLaws.{shaped-asked}
 use Rattle.nodes.proofs.PartLaws.{mesh-parts, mesh-asked}

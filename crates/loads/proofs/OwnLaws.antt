@@ -9,9 +9,9 @@ use lib.Dec.{eqb}
 use lib.ListN.{length, take}
 use lib.Seq.{take-at}
 use lib.Ieee.{Float}
-use Rattle.lists.specs.declared.rows.Answer.{Answer}
-use Rattle.lists.specs.Scan.{accepted}
-use Rattle.lists.proofs.ScanLaws.{row-holds, then-first, then-rest, scan-none, same-number, goes}
+use Rattle.rows.specs.declared.Answer.{Answer}
+use Rattle.rows.specs.Scan.{accepted}
+use Rattle.rows.proofs.ScanLaws.{row-holds, then-first, then-rest, scan-none, same-number, goes}
 use Rattle.quantities.specs.declared.Parameters.{Parameters}
 use Rattle.surge.specs.declared.Clock.{Clock}
 use Rattle.mesh.specs.Lent.{Mesh, N, E}

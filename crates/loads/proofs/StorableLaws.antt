@@ -12,7 +12,7 @@ use lib.Ieee.Bits.{ofBits-fits}
 use lib.Ieee.Fits.{nan-fits, add-fits, div-fits, cond-fits}
 use Rattle.lists.specs.Table.{table}
 use Rattle.lists.specs.Runs.{runsOf}
-use Rattle.lists.specs.Numbers.{plus0}
+use Rattle.rows.specs.Numbers.{plus0}
 use Rattle.lists.proofs.TableLaws.{length-table}
 use Rattle.quantities.specs.declared.Parameters.{Parameters}
 use Rattle.quantities.specs.declared.Forcing.{Forcing}

@@ -6,9 +6,9 @@ use mathlib.Core.List.{List, [], _∷_}
 use lib.Dec.{eqb, leb, ltb}
 use lib.ListN.{length, getD, take, drop}
 use lib.Ieee.{Float, nan}
-use Rattle.lists.specs.declared.rows.Answer.{Answer}
+use Rattle.rows.specs.declared.Answer.{Answer}
 use Rattle.lists.specs.Runs.{runsOf}
-use Rattle.lists.specs.Scan.{row, _then_, scan}
+use Rattle.rows.specs.Scan.{row, _then_, scan}
 use Rattle.quantities.specs.declared.Parameters.{Parameters}
 use Rattle.quantities.specs.declared.Node.{Node}
 use Rattle.frames.specs.Frames.{byteOf}

@@ -2,7 +2,6 @@
 pub(crate) mod loading;
 
 use bounds::STATE_RUNS;
-use lists::rows;
 use lists::slices;
 use quantities::Parameters;
 use surge::Clock;

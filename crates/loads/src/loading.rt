@@ -1,13 +1,12 @@
 // The lines of a save, read back: the rows of a load, the clock and the state that the lines hold.
 use frames::reading;
-use lists::rows;
-use lists::rows::Answer;
 use quantities::Node;
+use rows::Answer;
 use surge::Clock;
 ghost use mathlib.Core.Path.{_≡_};
 ghost use Prim.Native.Nat.{_+_, _*_, _<_, _≤_};
 ghost use lib.ListN.{length, take, drop, set};
-ghost use Rattle.lists.specs.Scan.{scan};
+ghost use Rattle.rows.specs.Scan.{scan};
 ghost use Rattle.bounds.specs.State.{stateRuns};
 ghost use Rattle.saves.specs.Lines.{layoutAt, due};
 ghost use Rattle.loads.specs.Load.{lineAt, row23, lineRows, clockOf, loadedNode, row10Read, textRows, loadedState};

@@ -8,11 +8,11 @@ use lib.Dec.{ltb}
 use lib.IntN.{ℤ, pos}
 use lib.Signed.{ltZ}
 use lib.ListN.{length}
-use Rattle.lists.specs.declared.rows.Answer.{Answer}
+use Rattle.rows.specs.declared.Answer.{Answer}
 use Rattle.lists.specs.Gather.{Three}
 use Rattle.lists.specs.Private.{Below}
-use Rattle.lists.specs.Scan.{refused, row, _then_, scan}
-use Rattle.lists.proofs.ScanLaws.{then-assoc, both-left, both-right}
+use Rattle.rows.specs.Scan.{refused, row, _then_, scan}
+use Rattle.rows.proofs.ScanLaws.{then-assoc, both-left, both-right}
 use Rattle.mesh.specs.Lent.{Mesh, E, corners}
 use Rattle.geometry.specs.Geometry.{D, allNear}
 use Rattle.mesh.specs.Geometry.{sides}

@@ -10,10 +10,10 @@ use lib.Dec.{T, leb, eqb}
 use lib.IntN.{ℤ, pos, negsuc, natAbs}
 use lib.Signed.{ltZ}
 use lib.ListN.{length, getD}
-use Rattle.lists.specs.declared.rows.Answer.{Answer}
+use Rattle.rows.specs.declared.Answer.{Answer}
 use Rattle.lists.specs.Private.{Below}
-use Rattle.lists.specs.Scan.{_then_}
-use Rattle.lists.proofs.ScanLaws.{row-passed, then-first, then-rest, scan-clean, both-left, both-right}
+use Rattle.rows.specs.Scan.{_then_}
+use Rattle.rows.proofs.ScanLaws.{row-passed, then-first, then-rest, scan-clean, both-left, both-right}
 use Rattle.geometry.specs.Geometry.{D, allNear}
 use Rattle.geometry.proofs.GeometryLaws.{all-small}
 use Rattle.mesh.specs.Lent.{Mesh, N, E, corner, corners}

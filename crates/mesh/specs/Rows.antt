@@ -6,8 +6,8 @@ use lib.IntN.{ℤ, pos}
 use lib.Signed.{ltZ}
 use lib.Dec.{ltb, leb, eqb}
 use lib.ListN.{length}
-use Rattle.lists.specs.declared.rows.Answer.{Answer}
-use Rattle.lists.specs.Scan.{row, _then_, scan}
+use Rattle.rows.specs.declared.Answer.{Answer}
+use Rattle.rows.specs.Scan.{row, _then_, scan}
 use Rattle.lists.specs.Gather.{Three}
 use Rattle.mesh.specs.Lent.{Mesh, N, E, corners}
 use Rattle.mesh.specs.Geometry.{sides}

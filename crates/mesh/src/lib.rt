@@ -2,10 +2,9 @@
 pub mod reading;
 pub(crate) mod triangles;
 
-use lists::rows;
-use lists::rows::Answer;
+use rows::Answer;
 ghost use mathlib.Core.Path.{_≡_};
-ghost use Rattle.lists.specs.Scan.{_then_};
+ghost use Rattle.rows.specs.Scan.{_then_};
 ghost use Rattle.mesh.specs.Lent.{mesh};
 ghost use Rattle.mesh.specs.Rows.{row1, row2, shapeRows};
 

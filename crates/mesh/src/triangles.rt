@@ -2,13 +2,12 @@
 use super::reading;
 use geometry::Corners;
 use geometry::Places;
-use lists::rows;
-use lists::rows::Answer;
+use rows::Answer;
 ghost use mathlib.Core.Path.{_≡_};
 ghost use Prim.Native.Nat.{_/_, _<_};
 ghost use lib.ListN.{length};
 ghost use Rattle.lists.specs.Private.{Below};
-ghost use Rattle.lists.specs.Scan.{scan};
+ghost use Rattle.rows.specs.Scan.{scan};
 ghost use Rattle.geometry.specs.Private.{nodesOf};
 ghost use Rattle.mesh.specs.Private.{placesOf};
 ghost use Rattle.mesh.specs.Rows.{triangleRows};

@@ -7,8 +7,8 @@ use borrow.Author.Tests.{eqb-true, eqb-false}
 use lib.Dec.{eqb}
 use lib.ListN.{length, getD, set}
 use lib.Seq.{getD-set-same, getD-set-other}
-use Rattle.lists.specs.Scan.{some}
-use Rattle.lists.proofs.ScanLaws.{some-more}
+use Rattle.rows.specs.Scan.{some}
+use Rattle.rows.proofs.ScanLaws.{some-more}
 
 abbrev pub namedBy : List ℕ → ℕ → ℕ → Bool
 namedBy tri j i = some (λ k. eqb (getD tri k 0) i) j

@@ -6,10 +6,10 @@ use mathlib.Core.List.{List}
 use lib.Dec.{leb}
 use lib.ListN.{length, getD}
 use lib.Ieee.{Float, nan}
-use Rattle.lists.specs.declared.rows.Answer.{Answer}
-use Rattle.lists.specs.Scan.{accepted}
-use Rattle.lists.specs.Numbers.{within, decimal}
-use Rattle.lists.proofs.ScanLaws.{row-passed, then-next, then-first, then-rest, scan-clean, both-left}
+use Rattle.rows.specs.declared.Answer.{Answer}
+use Rattle.rows.specs.Scan.{accepted}
+use Rattle.rows.specs.Numbers.{within, decimal}
+use Rattle.rows.proofs.ScanLaws.{row-passed, then-next, then-first, then-rest, scan-clean, both-left}
 use Rattle.quantities.specs.declared.Parameters.{Parameters}
 use Rattle.limits.specs.Limits.{isNode}
 use Rattle.mesh.specs.Lent.{Mesh, N}

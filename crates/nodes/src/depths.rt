@@ -1,9 +1,8 @@
 // Row 8: the depths and the kinds.
-use lists::rows;
-use lists::rows::Answer;
+use rows::Answer;
 ghost use mathlib.Core.Path.{_≡_};
 ghost use lib.ListN.{length};
-ghost use Rattle.lists.specs.Scan.{scan};
+ghost use Rattle.rows.specs.Scan.{scan};
 ghost use Rattle.nodes.specs.Rows.{row8};
 
 // Row 8, where some node is refused: the first of them.

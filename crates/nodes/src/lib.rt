@@ -2,9 +2,8 @@
 pub(crate) mod depths;
 pub(crate) mod marks;
 
-use lists::rows;
-use lists::rows::Answer;
 use quantities::Parameters;
+use rows::Answer;
 ghost use mathlib.Core.Path.{_≡_};
 ghost use Prim.Native.Nat.{ℕ, _<_, _≤_};
 ghost use lib.ListN.{length, getD};

@@ -1,10 +1,9 @@
 // Row 7: the marks.
-use lists::rows;
-use lists::rows::Answer;
+use rows::Answer;
 ghost use mathlib.Core.Path.{_≡_};
 ghost use Prim.Native.Nat.{ℕ, _<_, _≤_};
 ghost use lib.ListN.{length, getD};
-ghost use Rattle.lists.specs.Scan.{scan};
+ghost use Rattle.rows.specs.Scan.{scan};
 ghost use Rattle.lists.specs.Table.{table};
 ghost use Rattle.nodes.specs.Rows.{isNamed, row7};
 

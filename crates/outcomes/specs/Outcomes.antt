@@ -2,9 +2,9 @@
 use Prim.Native.Nat.{ℕ}
 use mathlib.Core.Bool.{cond}
 use lib.Ieee.{Float, le}
-use Rattle.lists.specs.Scan.{accepted, _then_}
-use Rattle.lists.specs.Numbers.{inSize}
-use Rattle.lists.specs.declared.rows.Answer.{Answer}
+use Rattle.rows.specs.Scan.{accepted, _then_}
+use Rattle.rows.specs.Numbers.{inSize}
+use Rattle.rows.specs.declared.Answer.{Answer}
 use Rattle.quantities.specs.declared.Flow.{Flow}
 use Rattle.quantities.specs.Operations.{_⊕_}
 use Rattle.quantities.specs.Constants.{tenth}

@@ -1,5 +1,4 @@
 // Row 13 of the refusal table on single values: what becomes of a node, and the answer for it.
-use lists::rows;
 use quantities::Flow;
 ghost use mathlib.Core.Path.{_≡_};
 ghost use Rattle.outcomes.specs.Outcomes.{ofRise, speed, ofEast, ofNorth, answerOf, riseRow, flowRow};

@@ -13,8 +13,8 @@ use Rattle.lists.specs.Table.{table}
 use Rattle.lists.specs.Runs.{inRun, runsOf}
 use Rattle.lists.specs.Gather.{Three, alike, whole, gathered}
 use Rattle.lists.specs.Private.{past, Below, spread}
-use Rattle.lists.specs.Scan.{scan}
-use Rattle.lists.proofs.ScanLaws.{scan-same}
+use Rattle.rows.specs.Scan.{scan}
+use Rattle.rows.proofs.ScanLaws.{scan-same}
 use Rattle.lists.proofs.TableLaws.{length-table, getD-table}
 use Rattle.lists.proofs.RunLaws.{in-runs, run-read, run-same, run-turn, turned, turn-none, turn-here, turn-all}
 use Rattle.lists.proofs.GatherLaws.{gather-more, gather-run, gathered-le}

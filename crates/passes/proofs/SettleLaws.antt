@@ -8,13 +8,13 @@ use borrow.Author.Tests.{eqb-true, eq-eqb, ne-eqb}
 use lib.Dec.{eqb, lit<}
 use lib.ListN.{length, getD}
 use lib.Ieee.{Float, nan}
-use Rattle.lists.specs.declared.rows.Answer.{Answer}
-use Rattle.lists.specs.Numbers.{plus0}
+use Rattle.rows.specs.declared.Answer.{Answer}
+use Rattle.rows.specs.Numbers.{plus0}
 use Rattle.lists.specs.Table.{table, zeros}
 use Rattle.lists.specs.Runs.{isRuns, inRun, runsOf}
 use Rattle.lists.specs.Private.{withRun}
-use Rattle.lists.specs.Scan.{_then_}
-use Rattle.lists.proofs.ScanLaws.{row-passed, then-first, other-number, both-left, both-right}
+use Rattle.rows.specs.Scan.{_then_}
+use Rattle.rows.proofs.ScanLaws.{row-passed, then-first, other-number, both-left, both-right}
 use Rattle.lists.proofs.RunLaws.{run-read, run-put, run-same, runs-alike, as-runs}
 use Rattle.bounds.specs.State.{stateRuns, runRows}
 use Rattle.bounds.proofs.StateLaws.{AcceptedRun, accepted-run}

@@ -4,7 +4,7 @@ use mathlib.Core.List.{List, [], _∷_}
 use lib.IntN.{pos}
 use lib.ListN.{getD}
 use lib.Ieee.{Float, binary64, ofInt}
-use Rattle.lists.specs.Numbers.{plus0}
+use Rattle.rows.specs.Numbers.{plus0}
 use Rattle.lists.specs.Runs.{runsOf}
 use Rattle.lists.specs.Gather.{Three, alike, Adding, gathered}
 use Rattle.quantities.specs.declared.Parameters.{Parameters}

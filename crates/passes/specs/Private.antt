@@ -4,7 +4,7 @@ use mathlib.Core.Path.{_≡_}
 use mathlib.Core.List.{List, [], _∷_}
 use lib.ListN.{length}
 use lib.Ieee.{Float}
-use Rattle.lists.specs.Numbers.{plus0}
+use Rattle.rows.specs.Numbers.{plus0}
 use Rattle.lists.specs.Runs.{inRun, runsOf}
 use Rattle.lists.specs.Gather.{Three}
 use Rattle.quantities.specs.declared.Sides.{Sides}

@@ -1,6 +1,6 @@
 -- Document 01, "Refusal table": row 13 over a mesh.
-use Rattle.lists.specs.declared.rows.Answer.{Answer}
-use Rattle.lists.specs.Scan.{_then_, scan}
+use Rattle.rows.specs.declared.Answer.{Answer}
+use Rattle.rows.specs.Scan.{_then_, scan}
 use Rattle.outcomes.specs.Outcomes.{riseRow, flowRow}
 use Rattle.passes.specs.Equations.{Given, count, node, rise, flowAt}
 

@@ -5,10 +5,10 @@ use mathlib.Core.List.{List}
 use lib.Dec.{eqb}
 use lib.ListN.{length}
 use lib.Ieee.{Float}
-use Rattle.lists.specs.declared.rows.Answer.{Answer}
+use Rattle.rows.specs.declared.Answer.{Answer}
 use Rattle.lists.specs.Table.{table, zeros}
 use Rattle.lists.specs.Runs.{isRuns}
-use Rattle.lists.specs.Scan.{row, _then_}
+use Rattle.rows.specs.Scan.{row, _then_}
 use Rattle.bounds.specs.State.{stateRuns, runRows}
 use Rattle.passes.specs.Equations.{Given, count, nextState}
 use Rattle.passes.specs.Row13.{row13}

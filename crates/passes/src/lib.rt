@@ -6,12 +6,11 @@ pub(crate) mod sums;
 pub(crate) mod velocities;
 
 use bounds::STATE_RUNS;
-use lists::rows;
-use lists::rows::Answer;
 use lists::slices;
 use quantities::Forcing;
 use quantities::Parameters;
 use quantities::Wind;
+use rows::Answer;
 ghost use mathlib.Core.Path.{_≡_};
 ghost use mathlib.Core.Bool.{cond};
 ghost use mathlib.Core.List.{[], _∷_};

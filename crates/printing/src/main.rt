@@ -5,7 +5,7 @@
 use forcelog::Log;
 use libc::STDIN_FILENO;
 use libc::STDOUT_FILENO;
-use lists::rows::Answer;
+use rows::Answer;
 ghost use Prim.Native.Nat.{_≤_};
 ghost use mathlib.Core.Path.{_≡_};
 ghost use lib.ListN.{length};

@@ -1,6 +1,6 @@
 -- The constants of document 01's formulas. "g is the binary64 nearest 9.81; every limit written as a decimal is likewise the nearest binary64."
 use lib.Ieee.{Float}
-use Rattle.lists.specs.Numbers.{decimal}
+use Rattle.rows.specs.Numbers.{decimal}
 
 abbrev pub g : Float
 g = decimal 981 100

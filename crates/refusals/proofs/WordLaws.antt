@@ -10,7 +10,7 @@ use lib.Dec.{lit<, lit≤, leb, ltb}
 use lib.ListN.{length, take, drop, replicate, length-append}
 use lib.Seq.{take-append-seam, drop-append-add}
 use Rattle.io.specs.Digits.{digits, Fewest}
-use Rattle.lists.specs.declared.rows.Answer.{Answer}
+use Rattle.rows.specs.declared.Answer.{Answer}
 use Rattle.frames.specs.Frames.{lineFeed}
 use Rattle.lines.specs.Building.{laid}
 use Rattle.refusals.specs.declared.Words.{Words}

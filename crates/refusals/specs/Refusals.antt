@@ -4,7 +4,7 @@ use mathlib.Core.Bool.{cond}
 use mathlib.Core.List.{List, [], _∷_, _++_}
 use lib.Dec.{ltb}
 use lib.ListN.{length, replicate}
-use Rattle.lists.specs.declared.rows.Answer.{Answer}
+use Rattle.rows.specs.declared.Answer.{Answer}
 use Rattle.frames.specs.Frames.{lineFeed}
 use Rattle.refusals.specs.declared.Words.{Words}
 

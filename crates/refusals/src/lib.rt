@@ -1,5 +1,5 @@
 // The text of a refusal, as the printing program prints it.
-use lists::rows::Answer;
+use rows::Answer;
 ghost use mathlib.Core.Path.{_≡_};
 ghost use Rattle.refusals.specs.Refusals.{refusal, words};
 ghost use Rattle.refusals.specs.Private.{joined};

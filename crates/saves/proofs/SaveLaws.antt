@@ -5,14 +5,14 @@ use mathlib.Core.List.{List, _++_}
 use borrow.Author.Tests.{eq-eqb, ne-eqb, le-leb}
 use lib.ListN.{length, drop}
 use lib.Ieee.{Float}
-use Rattle.lists.specs.declared.rows.Answer.{Answer}
-use Rattle.lists.proofs.ScanLaws.{row-holds, then-next, same-number, other-number}
+use Rattle.rows.specs.declared.Answer.{Answer}
+use Rattle.rows.proofs.ScanLaws.{row-holds, then-next, same-number, other-number}
 use Rattle.quantities.specs.declared.Parameters.{Parameters}
 use Rattle.surge.specs.declared.Clock.{Clock}
 use Rattle.mesh.specs.Lent.{Mesh, N, E}
 use Rattle.limits.specs.Limits.{row12Held}
 use Rattle.bounds.specs.State.{runRows}
-use Rattle.lists.specs.Scan.{accepted}
+use Rattle.rows.specs.Scan.{accepted}
 use Rattle.surge.specs.Lent.{windOf}
 use Rattle.saves.specs.Lines.{saveLength}
 use Rattle.saves.specs.Save.{saveText, row24, saveAnswer, saveOut, wrote, saveOf}

@@ -5,9 +5,9 @@ use mathlib.Core.List.{List, [], _++_}
 use lib.Dec.{eqb, leb, ltb}
 use lib.ListN.{length, drop}
 use lib.Ieee.{Float}
-use Rattle.lists.specs.declared.rows.Answer.{Answer}
-use Rattle.lists.specs.Numbers.{plus0}
-use Rattle.lists.specs.Scan.{accepted, row, _then_}
+use Rattle.rows.specs.declared.Answer.{Answer}
+use Rattle.rows.specs.Numbers.{plus0}
+use Rattle.rows.specs.Scan.{accepted, row, _then_}
 use Rattle.quantities.specs.declared.Parameters.{Parameters}
 use Rattle.frames.specs.Frames.{Frame, text}
 use Rattle.surge.specs.declared.Clock.{Clock}

@@ -1,9 +1,8 @@
 // Saves: the text of a run.
 pub(crate) mod writing;
 
-use lists::rows;
-use lists::rows::Answer;
 use quantities::Parameters;
+use rows::Answer;
 use surge::Clock;
 ghost use mathlib.Core.Path.{_≡_};
 ghost use Rattle.mesh.specs.Lent.{mesh};

@@ -15,11 +15,11 @@ same p q = p ∙ sym q
 
 pub each-determined : EachDetermined
 each-determined = record {
-  lists·rows·accept-determined = λ κs a x y v w p q. (same p q, refl);
-  lists·rows·refuse-determined = λ κs a x y v w p q. (same p q, refl);
-  lists·rows·tested-determined = λ κs a x y v w p q. (same p q, refl);
-  lists·rows·first-determined = λ κs a x y v w p q. (same p q, refl);
-  lists·rows·in-range-determined = λ κs a x y v w p q. (same p q, refl);
+  rows·accept-determined = λ κs a x y v w p q. (same p q, refl);
+  rows·refuse-determined = λ κs a x y v w p q. (same p q, refl);
+  rows·tested-determined = λ κs a x y v w p q. (same p q, refl);
+  rows·first-determined = λ κs a x y v w p q. (same p q, refl);
+  rows·in-range-determined = λ κs a x y v w p q. (same p q, refl);
   lists·slices·is-runs-determined = λ κs a x y v w p q. (same p q, refl);
   lists·slices·clear-determined = λ κs a x y v w p q. (refl, λ i. (same p q i, tt));
   lists·slices·clear-whole-determined = λ κs a x y v w p q. (refl, λ i. (same p q i, tt));

@@ -7,16 +7,16 @@ use mathlib.Core.List.{List}
 use contract.Lifetimes.{Lfts}
 use borrow.Fn.Kinds.{PK, RK, Out, Dens, resT, endedOf}
 use denote.Triple.Clauses.{Lasts, atExit}
-use Rattle.lists.proofs.rows.accept.Kinds as lists·rows·accept-kinds
-use Rattle.lists.proofs.rows.accept.Reads as lists·rows·accept-reads
-use Rattle.lists.proofs.rows.refuse.Kinds as lists·rows·refuse-kinds
-use Rattle.lists.proofs.rows.refuse.Reads as lists·rows·refuse-reads
-use Rattle.lists.proofs.rows.tested.Kinds as lists·rows·tested-kinds
-use Rattle.lists.proofs.rows.tested.Reads as lists·rows·tested-reads
-use Rattle.lists.proofs.rows.first.Kinds as lists·rows·first-kinds
-use Rattle.lists.proofs.rows.first.Reads as lists·rows·first-reads
-use Rattle.lists.proofs.rows.in_range.Kinds as lists·rows·in-range-kinds
-use Rattle.lists.proofs.rows.in_range.Reads as lists·rows·in-range-reads
+use Rattle.rows.proofs.accept.Kinds as rows·accept-kinds
+use Rattle.rows.proofs.accept.Reads as rows·accept-reads
+use Rattle.rows.proofs.refuse.Kinds as rows·refuse-kinds
+use Rattle.rows.proofs.refuse.Reads as rows·refuse-reads
+use Rattle.rows.proofs.tested.Kinds as rows·tested-kinds
+use Rattle.rows.proofs.tested.Reads as rows·tested-reads
+use Rattle.rows.proofs.first.Kinds as rows·first-kinds
+use Rattle.rows.proofs.first.Reads as rows·first-reads
+use Rattle.rows.proofs.in_range.Kinds as rows·in-range-kinds
+use Rattle.rows.proofs.in_range.Reads as rows·in-range-reads
 use Rattle.lists.proofs.slices.is_runs.Kinds as lists·slices·is-runs-kinds
 use Rattle.lists.proofs.slices.is_runs.Reads as lists·slices·is-runs-reads
 use Rattle.lists.proofs.slices.clear.Kinds as lists·slices·clear-kinds
@@ -138,11 +138,11 @@ Determined {n} ps r Post =
     Post κs a x (atExit (endedOf n ps r) κs a v) → Post κs a y (atExit (endedOf n ps r) κs a w) → (x ≡ y) × (v ≡ w)
 
 pub record EachDetermined : Type 0 where
-  pub lists·rows·accept-determined : Determined lists·rows·accept-kinds.ps lists·rows·accept-kinds.r lists·rows·accept-reads.Post
-  pub lists·rows·refuse-determined : Determined lists·rows·refuse-kinds.ps lists·rows·refuse-kinds.r lists·rows·refuse-reads.Post
-  pub lists·rows·tested-determined : Determined lists·rows·tested-kinds.ps lists·rows·tested-kinds.r lists·rows·tested-reads.Post
-  pub lists·rows·first-determined : Determined lists·rows·first-kinds.ps lists·rows·first-kinds.r lists·rows·first-reads.Post
-  pub lists·rows·in-range-determined : Determined lists·rows·in-range-kinds.ps lists·rows·in-range-kinds.r lists·rows·in-range-reads.Post
+  pub rows·accept-determined : Determined rows·accept-kinds.ps rows·accept-kinds.r rows·accept-reads.Post
+  pub rows·refuse-determined : Determined rows·refuse-kinds.ps rows·refuse-kinds.r rows·refuse-reads.Post
+  pub rows·tested-determined : Determined rows·tested-kinds.ps rows·tested-kinds.r rows·tested-reads.Post
+  pub rows·first-determined : Determined rows·first-kinds.ps rows·first-kinds.r rows·first-reads.Post
+  pub rows·in-range-determined : Determined rows·in-range-kinds.ps rows·in-range-kinds.r rows·in-range-reads.Post
   pub lists·slices·is-runs-determined : Determined lists·slices·is-runs-kinds.ps lists·slices·is-runs-kinds.r lists·slices·is-runs-reads.Post
   pub lists·slices·clear-determined : Determined lists·slices·clear-kinds.ps lists·slices·clear-kinds.r lists·slices·clear-reads.Post
   pub lists·slices·clear-whole-determined : Determined lists·slices·clear-whole-kinds.ps lists·slices·clear-whole-kinds.r lists·slices·clear-whole-reads.Post

@@ -11,11 +11,11 @@ use lib.Ieee.Bits.{is-true}
 use lib.Ieee.Fits.{down-pos}
 use lib.Ieee.Order.{round-mono}
 use lib.Ieee.Positive.{positive, le→cross, between}
-use Rattle.lists.specs.declared.rows.Answer.{Answer}
+use Rattle.rows.specs.declared.Answer.{Answer}
 use Rattle.lists.specs.Runs.{inRun}
-use Rattle.lists.specs.Scan.{accepted, row}
-use Rattle.lists.specs.Numbers.{plus0, within, decimal, minus, inSize}
-use Rattle.lists.proofs.ScanLaws.{both-left, both-right}
+use Rattle.rows.specs.Scan.{accepted, row}
+use Rattle.rows.specs.Numbers.{plus0, within, decimal, minus, inSize}
+use Rattle.rows.proofs.ScanLaws.{both-left, both-right}
 use Rattle.lists.proofs.TableLaws.{length-table, getD-table}
 use Rattle.lists.proofs.RunLaws.{in-runs}
 use Rattle.quantities.specs.declared.Parameters.{Parameters}

@@ -7,11 +7,11 @@ use native.Mathlib.Omega.{arith}
 use lib.Dec.{lit<}
 use lib.ListN.{getD}
 use lib.Ieee.{Float, nan, le}
-use Rattle.lists.specs.Numbers.{inSize}
-use Rattle.lists.specs.declared.rows.Answer.{Answer}
+use Rattle.rows.specs.Numbers.{inSize}
+use Rattle.rows.specs.declared.Answer.{Answer}
 use Rattle.lists.specs.Runs.{runsOf}
-use Rattle.lists.specs.Scan.{accepted}
-use Rattle.lists.proofs.ScanLaws.{row-holds, row-passed, then-first, then-rest, scan-clean, both-left, both-right}
+use Rattle.rows.specs.Scan.{accepted}
+use Rattle.rows.proofs.ScanLaws.{row-holds, row-passed, then-first, then-rest, scan-clean, both-left, both-right}
 use Rattle.lists.proofs.RunLaws.{runs-length, run-read}
 use Rattle.quantities.specs.declared.Parameters.{Parameters}
 use Rattle.quantities.specs.declared.Forcing.{Forcing}

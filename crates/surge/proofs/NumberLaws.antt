@@ -4,9 +4,9 @@ use mathlib.Core.Path.{_≡_, refl, subst}
 use mathlib.Core.Bool.{Bool, true, false, not}
 use native.Mathlib.Omega.{arith}
 use lib.Dec.{T, eqb}
-use Rattle.lists.specs.declared.rows.Answer.{Answer}
-use Rattle.lists.specs.Scan.{row, _then_, scan}
-use Rattle.lists.proofs.ScanLaws.{then-stop, then-next}
+use Rattle.rows.specs.declared.Answer.{Answer}
+use Rattle.rows.specs.Scan.{row, _then_, scan}
+use Rattle.rows.proofs.ScanLaws.{then-stop, then-next}
 use Rattle.quantities.specs.declared.Parameters.{Parameters}
 use Rattle.quantities.specs.declared.Forcing.{Forcing}
 use Rattle.outcomes.specs.declared.Outcome.{Outcome}

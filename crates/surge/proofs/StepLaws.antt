@@ -3,8 +3,8 @@ use mathlib.Core.Path.{_≡_, refl}
 use mathlib.Core.Bool.{Bool, true, false, not}
 use borrow.Author.Tests.{eqb-true, eqb-false, not-true}
 use lib.Dec.{eqb}
-use Rattle.lists.specs.declared.rows.Answer.{Answer}
-use Rattle.lists.proofs.ScanLaws.{row-passed, then-first, then-rest}
+use Rattle.rows.specs.declared.Answer.{Answer}
+use Rattle.rows.proofs.ScanLaws.{row-passed, then-first, then-rest}
 use Rattle.quantities.specs.declared.Parameters.{Parameters}
 use Rattle.quantities.specs.declared.Forcing.{Forcing}
 use Rattle.limits.specs.Limits.{row11}

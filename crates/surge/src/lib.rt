@@ -1,11 +1,10 @@
 // The storm-surge run of document 01: the calls that are made on it, and what goes into them and comes back.
 use bounds::STATE_RUNS;
-use lists::rows;
-use lists::rows::Answer;
 use lists::slices;
 use quantities::Forcing;
 use quantities::Parameters;
 use quantities::Wind;
+use rows::Answer;
 ghost use mathlib.Core.Path.{_≡_};
 ghost use Prim.Native.Nat.{_<_};
 ghost use Rattle.mesh.specs.Lent.{mesh};

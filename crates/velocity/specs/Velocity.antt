@@ -3,7 +3,7 @@ use Prim.Native.Nat.{ℕ}
 use mathlib.Core.Bool.{cond}
 use lib.Dec.{eqb}
 use lib.Ieee.{Float}
-use Rattle.lists.specs.Numbers.{plus0}
+use Rattle.rows.specs.Numbers.{plus0}
 use Rattle.quantities.specs.Operations.{_⊕_, _⊖_, _⊗_, _⊘_}
 use Rattle.quantities.specs.Constants.{g, one, two}
 use Rattle.quantities.specs.declared.Parameters.{Parameters}

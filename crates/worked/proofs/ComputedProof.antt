@@ -6,10 +6,10 @@ use mathlib.Core.Option.{some, Option·getD, IsSome}
 use lib.IntN.{negsuc}
 use lib.ListN.{getD}
 use lib.Ieee.{Float, fin, nan}
-use Rattle.lists.specs.declared.rows.Answer.{Answer}
+use Rattle.rows.specs.declared.Answer.{Answer}
 use Rattle.lists.specs.Table.{table}
-use Rattle.lists.specs.Numbers.{plus0, decimal}
-use Rattle.lists.specs.Scan.{accepted, refused}
+use Rattle.rows.specs.Numbers.{plus0, decimal}
+use Rattle.rows.specs.Scan.{accepted, refused}
 use Rattle.surge.specs.Lent.{Run, run, After}
 use Rattle.surge.specs.Open.{openOf}
 use Rattle.surge.specs.Step.{StepOut, stepOf, stepOut}

@@ -2,8 +2,8 @@
 use lib.Ieee.{le, lt, eq, round, toBits, ofBits, add, sub, mul, div, neg, ofInt}
 use Rattle.lists.specs.Table.{table}
 use Rattle.lists.specs.Runs.{runsOf}
-use Rattle.lists.specs.Scan.{row, _then_, scan, some}
-use Rattle.lists.specs.Numbers.{within, decimal, minus}
+use Rattle.rows.specs.Scan.{row, _then_, scan, some}
+use Rattle.rows.specs.Numbers.{within, decimal, minus}
 use Rattle.lists.specs.Gather.{joined, gathered}
 use Rattle.triangle.specs.Triangle.{z*, H as Hi, qx, qy, mean, slope, means}
 use Rattle.elevation.specs.Elevation.{Jx, Jy, corner, shares, L, z′, riseOf}

@@ -7,7 +7,7 @@ use mathlib.Core.Option.{some, Option·getD, IsSome}
 use lib.Dec.{T as Holds, eqb}
 use lib.ListN.{length, take}
 use lib.Ieee.{eq}
-use Rattle.lists.specs.Numbers.{decimal}
+use Rattle.rows.specs.Numbers.{decimal}
 use Rattle.bounds.specs.State.{stateRuns}
 use Rattle.surge.specs.Lent.{Run}
 use Rattle.saves.specs.Save.{saveOf, wrote}

@@ -8,10 +8,10 @@ use lib.Dec.{T as Holds}
 use lib.ListN.{replicate, take, getD}
 use lib.Ieee.{Float, binary64, fits, nan}
 use lib.Ieee.Fits.{round-fits}
-use Rattle.lists.specs.declared.rows.Answer.{Answer}
+use Rattle.rows.specs.declared.Answer.{Answer}
 use Rattle.lists.specs.Table.{table}
-use Rattle.lists.specs.Scan.{accepted, refused}
-use Rattle.lists.specs.Numbers.{decimal}
+use Rattle.rows.specs.Scan.{accepted, refused}
+use Rattle.rows.specs.Numbers.{decimal}
 use Rattle.surge.specs.Open.{openOf}
 use Rattle.surge.specs.Lent.{Run}
 use Rattle.surge.specs.Step.{stepOf}

@@ -4,10 +4,10 @@ use mathlib.Core.Path.{_≡_}
 use mathlib.Core.List.{List, [], _∷_, _++_, map}
 use lib.IntN.{ℤ, pos, negsuc}
 use lib.ListN.{length, replicate}
-use Rattle.lists.specs.declared.rows.Answer.{Answer}
+use Rattle.rows.specs.declared.Answer.{Answer}
 use Rattle.lists.specs.Table.{table, zeros}
-use Rattle.lists.specs.Numbers.{plus0, decimal}
-use Rattle.lists.specs.Scan.{accepted, refused}
+use Rattle.rows.specs.Numbers.{plus0, decimal}
+use Rattle.rows.specs.Scan.{accepted, refused}
 use Rattle.quantities.specs.declared.Parameters.{Parameters}
 use Rattle.geometry.specs.declared.WholeSides.{WholeSides}
 use Rattle.frames.specs.Bytes.{bytes, sum}

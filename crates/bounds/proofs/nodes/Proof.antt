@@ -4,8 +4,8 @@ use mathlib.Core.Bool.{Bool}
 use native.Mathlib.Omega.{arith}
 use borrow.Author.Needs.{needs}
 use lib.Dec.{eqb}
-use Rattle.lists.specs.Scan.{scan}
-use Rattle.lists.proofs.ScanLaws.{all-none, all-more, all-accept, row-accepts}
+use Rattle.rows.specs.Scan.{scan}
+use Rattle.rows.proofs.ScanLaws.{all-none, all-more, all-accept, row-accepts}
 use Rattle.limits.specs.Limits.{inBounds}
 use Rattle.bounds.specs.State.{nodeOf, row10}
 use Rattle.bounds.proofs.nodes.Statement.{statement}

@@ -5,7 +5,7 @@ use native.Mathlib.Omega.{arith}
 use borrow.Author.Count.{below-none, below-more}
 use borrow.Author.Needs.{needs}
 use borrow.Author.Tests.{not-true, not-false}
-use Rattle.lists.proofs.ScanLaws.{row-hit, row-none}
+use Rattle.rows.proofs.ScanLaws.{row-hit, row-none}
 use Rattle.limits.specs.Limits.{inBounds}
 use Rattle.bounds.specs.State.{nodeOf, row10}
 use Rattle.bounds.proofs.refused_node.Statement.{statement}

@@ -1,8 +1,8 @@
 use mathlib.Core.Path.{_≡_, ap, _∙_}
 use mathlib.Core.Bool.{Bool}
-use Rattle.lists.specs.declared.rows.Answer.{Answer}
-use Rattle.lists.specs.Scan.{row, _then_}
-use Rattle.lists.proofs.ScanLaws.{same-number, stops, goes, then-rest}
+use Rattle.rows.specs.declared.Answer.{Answer}
+use Rattle.rows.specs.Scan.{row, _then_}
+use Rattle.rows.proofs.ScanLaws.{same-number, stops, goes, then-rest}
 use Rattle.mesh.specs.Lent.{Mesh, mesh}
 use Rattle.nodes.specs.Rows.{meshRows}
 use Rattle.mesh.proofs.ShapedLaws.{shaped, shaped-asked}

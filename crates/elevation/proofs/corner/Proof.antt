@@ -1,6 +1,6 @@
 use mathlib.Core.Path.{refl}
 use lib.Ieee.{round, ofBits}
-use Rattle.lists.specs.Numbers.{decimal}
+use Rattle.rows.specs.Numbers.{decimal}
 use Rattle.elevation.specs.Elevation.{corner}
 use Rattle.elevation.proofs.corner.Statement.{statement}
 use Rattle.elevation.proofs.corner.Tie as tie

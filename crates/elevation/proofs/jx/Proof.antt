@@ -1,6 +1,6 @@
 use mathlib.Core.Path.{refl}
 use lib.Ieee.{round, ofBits}
-use Rattle.lists.specs.Numbers.{decimal}
+use Rattle.rows.specs.Numbers.{decimal}
 use Rattle.elevation.specs.Elevation.{Jx}
 use Rattle.elevation.proofs.jx.Statement.{statement}
 use Rattle.elevation.proofs.jx.Tie as tie

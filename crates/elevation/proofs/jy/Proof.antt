@@ -1,6 +1,6 @@
 use mathlib.Core.Path.{refl}
 use lib.Ieee.{round, ofBits}
-use Rattle.lists.specs.Numbers.{decimal}
+use Rattle.rows.specs.Numbers.{decimal}
 use Rattle.elevation.specs.Elevation.{Jy}
 use Rattle.elevation.proofs.jy.Statement.{statement}
 use Rattle.elevation.proofs.jy.Tie as tie

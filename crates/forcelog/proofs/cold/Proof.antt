@@ -1,7 +1,7 @@
 use mathlib.Core.Path.{refl, ap, _∙_}
 use lib.Ieee.{round, ofBits}
 use Rattle.lists.specs.Table.{table}
-use Rattle.lists.specs.Numbers.{decimal}
+use Rattle.rows.specs.Numbers.{decimal}
 use Rattle.surge.specs.Lent.{After}
 use Rattle.forcelog.specs.MeshT.{T, T-parameters}
 use Rattle.forcelog.specs.Log.{coldLog}

@@ -1,6 +1,6 @@
 use mathlib.Core.Path.{refl}
 use lib.Ieee.{round, ofBits}
-use Rattle.lists.specs.Numbers.{decimal}
+use Rattle.rows.specs.Numbers.{decimal}
 use Rattle.forcelog.specs.MeshT.{T, T-parameters}
 use Rattle.forcelog.specs.Log.{endOf}
 use borrow.Author.Needs.{needs}

@@ -2,7 +2,7 @@ use mathlib.Core.Path.{_≡_, refl, _∙_}
 use native.Mathlib.Omega.{arith}
 use lib.Ieee.{round, ofBits}
 use Rattle.lists.specs.Table.{table}
-use Rattle.lists.specs.Numbers.{decimal}
+use Rattle.rows.specs.Numbers.{decimal}
 use Rattle.surge.specs.Step.{StepOut, stepOut}
 use Rattle.forcelog.specs.declared.Log.{Log}
 use Rattle.forcelog.specs.MeshT.{T, T-parameters}

@@ -1,6 +1,6 @@
 use borrow.Author.Tests.{eq-eqb, ne-eqb}
 use lib.Ieee.{ofBits}
-use Rattle.lists.proofs.ScanLaws.{same-number, other-number}
+use Rattle.rows.proofs.ScanLaws.{same-number, other-number}
 use Rattle.forcings.specs.Forcings.{still, forcingOf, takenOf}
 use Rattle.forcings.proofs.read_forcing.Statement.{statement}
 use Rattle.forcings.proofs.read_forcing.Tie as tie

@@ -5,9 +5,9 @@ use mathlib.Core.Logic.{⊎-elim}
 use native.Mathlib.Omega.{arith}
 use borrow.Author.Count.{below-none, below-more}
 use borrow.Author.Needs.{needs}
-use Rattle.lists.specs.declared.rows.Answer.{Answer}
-use Rattle.lists.specs.Scan.{refused, some}
-use Rattle.lists.proofs.ScanLaws.{scan-none, scan-hit, some-none}
+use Rattle.rows.specs.declared.Answer.{Answer}
+use Rattle.rows.specs.Scan.{refused, some}
+use Rattle.rows.proofs.ScanLaws.{scan-none, scan-hit, some-none}
 use Rattle.geometry.specs.Private.{nodesOf}
 use Rattle.mesh.specs.Lent.{corners}
 use Rattle.legs.specs.Legs.{legSeen, row6}

@@ -1,5 +1,5 @@
 use lib.Ieee.{ofBits, neg, round}
-use Rattle.lists.specs.Numbers.{decimal, minus}
+use Rattle.rows.specs.Numbers.{decimal, minus}
 use Rattle.limits.specs.Limits.{row12Held}
 use borrow.Author.Needs.{needs}
 use Rattle.limits.proofs.held_wind.Statement.{statement}

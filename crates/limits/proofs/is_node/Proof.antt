@@ -1,5 +1,5 @@
 use lib.Ieee.{ofBits, round}
-use Rattle.lists.specs.Numbers.{decimal}
+use Rattle.rows.specs.Numbers.{decimal}
 use Rattle.limits.specs.Limits.{isNode}
 use borrow.Author.Needs.{needs}
 use Rattle.limits.proofs.is_node.Statement.{statement}

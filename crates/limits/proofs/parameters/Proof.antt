@@ -1,5 +1,5 @@
 use lib.Ieee.{ofBits, neg, round}
-use Rattle.lists.specs.Numbers.{decimal, minus}
+use Rattle.rows.specs.Numbers.{decimal, minus}
 use Rattle.limits.specs.Limits.{row9}
 use Rattle.limits.proofs.parameters.Statement.{statement}
 use Rattle.limits.proofs.parameters.Tie as tie

@@ -1,9 +1,9 @@
 use mathlib.Core.Path.{_≡_, ap, _∙_}
 use mathlib.Core.Bool.{Bool}
 use borrow.Author.Needs.{needs}
-use Rattle.lists.specs.declared.rows.Answer.{Answer}
-use Rattle.lists.specs.Scan.{row}
-use Rattle.lists.proofs.ScanLaws.{same-number, stops, goes}
+use Rattle.rows.specs.declared.Answer.{Answer}
+use Rattle.rows.specs.Scan.{row}
+use Rattle.rows.proofs.ScanLaws.{same-number, stops, goes}
 use Rattle.mesh.specs.Lent.{Mesh, mesh}
 use Rattle.nodes.specs.Rows.{meshRows}
 use Rattle.mesh.specs.Private.{Sized}

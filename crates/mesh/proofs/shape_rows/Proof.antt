@@ -1,5 +1,5 @@
 use mathlib.Core.Path.{_∙_}
-use Rattle.lists.proofs.ScanLaws.{same-number, stops, goes}
+use Rattle.rows.proofs.ScanLaws.{same-number, stops, goes}
 use Rattle.mesh.proofs.RowLaws.{lent-first}
 use Rattle.mesh.proofs.ShapedLaws.{lent-sized}
 use Rattle.mesh.proofs.shape_rows.Statement.{statement}

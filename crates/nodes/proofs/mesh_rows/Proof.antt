@@ -1,4 +1,4 @@
-use Rattle.lists.proofs.ScanLaws.{same-number, stops, goes}
+use Rattle.rows.proofs.ScanLaws.{same-number, stops, goes}
 use Rattle.nodes.specs.Rows.{meshRows}
 use Rattle.nodes.proofs.PartLaws.{for-nodes}
 use Rattle.nodes.proofs.mesh_rows.Statement.{statement}

@@ -1,5 +1,5 @@
 use mathlib.Core.Path.{_∙_}
-use Rattle.lists.proofs.ScanLaws.{same-number, stops, goes}
+use Rattle.rows.proofs.ScanLaws.{same-number, stops, goes}
 use Rattle.nodes.specs.Rows.{openRows}
 use Rattle.nodes.proofs.PartLaws.{for-nodes}
 use Rattle.nodes.proofs.open_rows.Statement.{statement}

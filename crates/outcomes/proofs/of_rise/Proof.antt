@@ -1,5 +1,5 @@
 use lib.Ieee.{round, neg, ofBits}
-use Rattle.lists.specs.Numbers.{decimal, minus}
+use Rattle.rows.specs.Numbers.{decimal, minus}
 use Rattle.outcomes.specs.Outcomes.{ofRise}
 use Rattle.outcomes.proofs.of_rise.Statement.{statement}
 use Rattle.outcomes.proofs.of_rise.Tie as tie

@@ -1,9 +1,9 @@
 use mathlib.Core.Path.{_≡_, ap, _∙_}
 use mathlib.Core.Bool.{_&&_}
 use borrow.Author.Needs.{needs}
-use Rattle.lists.specs.declared.rows.Answer.{Answer}
-use Rattle.lists.specs.Scan.{row, _then_}
-use Rattle.lists.proofs.ScanLaws.{same-number}
+use Rattle.rows.specs.declared.Answer.{Answer}
+use Rattle.rows.specs.Scan.{row, _then_}
+use Rattle.rows.proofs.ScanLaws.{same-number}
 use Rattle.mesh.specs.Lent.{mesh}
 use Rattle.bounds.specs.State.{runRows}
 use Rattle.passes.specs.Equations.{Given, given}

@@ -1,6 +1,6 @@
 use mathlib.Core.Path.{_∙_}
 use borrow.Author.Needs.{needs}
-use Rattle.lists.proofs.ScanLaws.{same-number, stops, goes}
+use Rattle.rows.proofs.ScanLaws.{same-number, stops, goes}
 use Rattle.mesh.specs.Lent.{mesh}
 use Rattle.passes.specs.Equations.{Given, given}
 use Rattle.passes.specs.Row13.{row13}

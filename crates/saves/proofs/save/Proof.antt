@@ -1,11 +1,11 @@
 use mathlib.Core.Path.{_≡_, ap, _∙_}
-use Rattle.lists.specs.declared.rows.Answer.{Answer}
+use Rattle.rows.specs.declared.Answer.{Answer}
 use native.Mathlib.Omega.{arith}
 use borrow.Author.Needs.{needs}
 use borrow.Author.Tests.{leb-true}
 use lib.Ieee.{ofBits}
-use Rattle.lists.specs.Scan.{accepted, _then_}
-use Rattle.lists.proofs.ScanLaws.{row-passed, then-rest, same-number, stops, goes}
+use Rattle.rows.specs.Scan.{accepted, _then_}
+use Rattle.rows.proofs.ScanLaws.{row-passed, then-rest, same-number, stops, goes}
 use Rattle.limits.specs.Limits.{row12Held}
 use Rattle.mesh.specs.Lent.{Mesh, mesh}
 use Rattle.bounds.specs.State.{runRows}

@@ -2,8 +2,8 @@ use mathlib.Core.Path.{_≡_, ap, _∙_}
 use mathlib.Core.Logic.{⊎-elim}
 use mathlib.Core.Bool.{Bool}
 use lib.ListN.{length}
-use Rattle.lists.specs.declared.rows.Answer.{Answer}
-use Rattle.lists.specs.Scan.{row}
+use Rattle.rows.specs.declared.Answer.{Answer}
+use Rattle.rows.specs.Scan.{row}
 use Rattle.lists.proofs.TableLaws.{length-table}
 use Rattle.mesh.specs.Lent.{mesh}
 use Rattle.nodes.specs.Rows.{openRows}

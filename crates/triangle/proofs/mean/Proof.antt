@@ -1,6 +1,6 @@
 use mathlib.Core.Path.{refl}
 use lib.Ieee.{round, ofBits}
-use Rattle.lists.specs.Numbers.{decimal}
+use Rattle.rows.specs.Numbers.{decimal}
 use Rattle.triangle.specs.Triangle.{mean}
 use Rattle.triangle.proofs.mean.Statement.{statement}
 use Rattle.triangle.proofs.mean.Tie as tie

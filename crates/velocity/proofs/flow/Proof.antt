@@ -1,6 +1,6 @@
 use mathlib.Core.Path.{refl}
 use lib.Ieee.{round, ofBits}
-use Rattle.lists.specs.Numbers.{decimal}
+use Rattle.rows.specs.Numbers.{decimal}
 use Rattle.velocity.specs.Velocity.{flow, U′, V′, n, Rx, Ry, wx, wy, gx, gy, q, m, p, r, H′, H}
 use Rattle.velocity.proofs.flow.Statement.{statement}
 use Rattle.velocity.proofs.flow.Tie as tie

@@ -3,7 +3,7 @@ use mathlib.Core.Bool.{cond}
 use mathlib.Core.Logic.{⊎-elim}
 use lib.Dec.{eqb}
 use lib.Ieee.{ofBits}
-use Rattle.lists.specs.Numbers.{plus0}
+use Rattle.rows.specs.Numbers.{plus0}
 use Rattle.velocity.specs.Velocity.{flowOf}
 use Rattle.velocity.proofs.flow_of.Statement.{statement}
 use Rattle.velocity.proofs.flow_of.Tie as tie

@@ -1,7 +1,7 @@
 use Prim.Native.Nat.{_≤_}
 use native.Mathlib.Omega.{arith}
 use borrow.Author.Tests.{leb-true}
-use Rattle.lists.proofs.ScanLaws.{both-left}
+use Rattle.rows.proofs.ScanLaws.{both-left}
 use Rattle.frames.specs.Bytes.{worth}
 use Rattle.frames.proofs.digits.worth.Statement.{statement}
 use Rattle.frames.proofs.digits.worth.Tie as tie

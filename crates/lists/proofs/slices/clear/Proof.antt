@@ -4,7 +4,7 @@ use native.Mathlib.Omega.{arith}
 use borrow.Author.Needs.{needs}
 use lib.ListN.{length}
 use lib.Ieee.{ofBits}
-use Rattle.lists.specs.Numbers.{plus0}
+use Rattle.rows.specs.Numbers.{plus0}
 use Rattle.lists.specs.Private.{upTo}
 use Rattle.lists.proofs.TableLaws.{up-none, up-more, up-length, up-all}
 use Rattle.lists.proofs.slices.clear.Statement.{statement}

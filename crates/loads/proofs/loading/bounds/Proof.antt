@@ -3,7 +3,7 @@ use mathlib.Core.Path.{_≡_, sym, _∙_}
 use native.Mathlib.Omega.{arith}
 use borrow.Author.Count.{below-none, below-more}
 use borrow.Author.Needs.{needs}
-use Rattle.lists.proofs.ScanLaws.{scan-none, scan-hit, same-number, other-number}
+use Rattle.rows.proofs.ScanLaws.{scan-none, scan-hit, same-number, other-number}
 use Rattle.loads.specs.Load.{row10Read}
 use Rattle.loads.proofs.loading.bounds.Statement.{statement}
 use Rattle.loads.proofs.loading.bounds.Tie as tie

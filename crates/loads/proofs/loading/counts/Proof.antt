@@ -1,6 +1,6 @@
 use mathlib.Core.Path.{refl, sym}
 use native.Mathlib.Omega.{arith}
-use Rattle.lists.proofs.ScanLaws.{row-holds}
+use Rattle.rows.proofs.ScanLaws.{row-holds}
 use Rattle.loads.specs.Load.{row23}
 use Rattle.saves.proofs.LineLaws.{node-place, last-place}
 use Rattle.loads.proofs.loading.counts.Statement.{statement}

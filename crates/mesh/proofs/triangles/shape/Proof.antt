@@ -5,7 +5,7 @@ use lib.IntN.{ℤ, pos}
 use lib.Signed.{ltZ}
 use lib.ListN.{length}
 use Rattle.lists.specs.Gather.{Three}
-use Rattle.lists.specs.Scan.{row}
+use Rattle.rows.specs.Scan.{row}
 use Rattle.mesh.specs.Lent.{corners}
 use Rattle.geometry.specs.Geometry.{allNear, nearD}
 use Rattle.geometry.specs.Private.{nodesOf}

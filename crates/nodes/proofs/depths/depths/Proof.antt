@@ -6,8 +6,8 @@ use borrow.Author.Needs.{needs}
 use lib.Dec.{eqb}
 use lib.ListN.{getD}
 use lib.Ieee.{nan}
-use Rattle.lists.specs.Scan.{scan}
-use Rattle.lists.proofs.ScanLaws.{all-none, all-more, all-accept, row-accepts}
+use Rattle.rows.specs.Scan.{scan}
+use Rattle.rows.proofs.ScanLaws.{all-none, all-more, all-accept, row-accepts}
 use Rattle.limits.specs.Limits.{isNode}
 use Rattle.nodes.specs.Rows.{row8}
 use Rattle.nodes.proofs.depths.depths.Statement.{statement}

@@ -7,7 +7,7 @@ use borrow.Author.Needs.{needs}
 use borrow.Author.Tests.{not-true, not-false}
 use lib.ListN.{getD}
 use lib.Ieee.{nan}
-use Rattle.lists.proofs.ScanLaws.{row-hit, row-none}
+use Rattle.rows.proofs.ScanLaws.{row-hit, row-none}
 use Rattle.limits.specs.Limits.{isNode}
 use Rattle.nodes.specs.Rows.{row8}
 use Rattle.nodes.proofs.depths.refused_depth.Statement.{statement}

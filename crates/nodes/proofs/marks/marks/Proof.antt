@@ -4,7 +4,7 @@ use mathlib.Core.Bool.{false}
 use native.Mathlib.Omega.{arith}
 use borrow.Author.Needs.{needs}
 use lib.ListN.{length, getD, length-set, getD-replicate}
-use Rattle.lists.specs.Scan.{some}
+use Rattle.rows.specs.Scan.{some}
 use Rattle.lists.proofs.TableLaws.{is-table}
 use Rattle.nodes.specs.Rows.{isNamed}
 use Rattle.nodes.proofs.MarkLaws.{namedBy, mark-more}

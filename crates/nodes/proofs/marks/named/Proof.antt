@@ -8,7 +8,7 @@ use borrow.Author.Count.{below-none, below-more}
 use borrow.Author.Needs.{needs}
 use borrow.Author.Tests.{not-true, not-false}
 use lib.ListN.{getD}
-use Rattle.lists.proofs.ScanLaws.{row-hit, row-none}
+use Rattle.rows.proofs.ScanLaws.{row-hit, row-none}
 use Rattle.lists.proofs.TableLaws.{getD-table}
 use Rattle.nodes.specs.Rows.{isNamed, row7}
 use Rattle.nodes.proofs.marks.named.Statement.{statement}

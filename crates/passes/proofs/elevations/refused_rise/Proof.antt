@@ -6,8 +6,8 @@ use borrow.Author.Needs.{needs}
 use lib.ListN.{getD}
 use lib.Ieee.{nan}
 use Rattle.lists.specs.Runs.{inRun}
-use Rattle.lists.specs.declared.rows.Answer.{Answer}
-use Rattle.lists.proofs.ScanLaws.{scan-none, scan-hit, same-number, other-number}
+use Rattle.rows.specs.declared.Answer.{Answer}
+use Rattle.rows.proofs.ScanLaws.{scan-none, scan-hit, same-number, other-number}
 use Rattle.outcomes.specs.Outcomes.{riseRow}
 use Rattle.passes.proofs.PassLaws.{rises-read}
 use Rattle.passes.proofs.elevations.refused_rise.Statement.{statement}

@@ -4,9 +4,9 @@ use native.Mathlib.Omega.{arith}
 use borrow.Author.Needs.{needs}
 use lib.Dec.{eqb}
 use lib.ListN.{length, length-set}
-use Rattle.lists.specs.declared.rows.Answer.{Answer}
-use Rattle.lists.specs.Scan.{scan}
-use Rattle.lists.proofs.ScanLaws.{all-none, all-more, all-accept}
+use Rattle.rows.specs.declared.Answer.{Answer}
+use Rattle.rows.specs.Scan.{scan}
+use Rattle.rows.proofs.ScanLaws.{all-none, all-more, all-accept}
 use Rattle.lists.proofs.TableLaws.{length-table}
 use Rattle.lists.proofs.RunLaws.{runs-length}
 use Rattle.mesh.specs.Lent.{mesh}

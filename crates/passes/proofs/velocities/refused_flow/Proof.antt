@@ -4,8 +4,8 @@ use native.Mathlib.Omega.{arith}
 use borrow.Author.Count.{below-none, below-more}
 use borrow.Author.Needs.{needs}
 use Rattle.lists.specs.Runs.{inRun}
-use Rattle.lists.specs.declared.rows.Answer.{Answer}
-use Rattle.lists.proofs.ScanLaws.{scan-none, scan-hit, same-number, other-number}
+use Rattle.rows.specs.declared.Answer.{Answer}
+use Rattle.rows.proofs.ScanLaws.{scan-none, scan-hit, same-number, other-number}
 use Rattle.outcomes.specs.Outcomes.{flowRow}
 use Rattle.passes.proofs.PassLaws.{flows-read}
 use Rattle.passes.proofs.velocities.refused_flow.Statement.{statement}

@@ -1,7 +1,7 @@
 use mathlib.Core.Path.{sym}
-use Rattle.lists.proofs.ScanLaws.{then-stop, then-next}
-use Rattle.lists.proofs.rows.first.Statement.{statement}
-use Rattle.lists.proofs.rows.first.Tie as tie
+use Rattle.rows.proofs.ScanLaws.{then-stop, then-next}
+use Rattle.rows.proofs.first.Statement.{statement}
+use Rattle.rows.proofs.first.Tie as tie
 
 returns : tie.Need-returns
 returns c = sym (then-next _ _ (c .if1 .taken))

@@ -1,7 +1,7 @@
 use mathlib.Core.Path.{refl}
 use lib.Ieee.{ofBits}
-use Rattle.lists.proofs.rows.refuse.Statement.{statement}
-use Rattle.lists.proofs.rows.refuse.Tie as tie
+use Rattle.rows.proofs.refuse.Statement.{statement}
+use Rattle.rows.proofs.refuse.Tie as tie
 
 -- the literal 0.0 is +0
 returns : tie.Need-returns

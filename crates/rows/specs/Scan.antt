@@ -1,8 +1,8 @@
 -- Document 01, "Refusal table": what a row answers, rows in order, and the first place at which a row refuses.
 use Prim.Native.Nat.{ℕ, zero, suc}
 use mathlib.Core.Bool.{Bool, true, false, _||_}
-use Rattle.lists.specs.declared.rows.Answer.{Answer}
-use Rattle.lists.specs.Numbers.{plus0}
+use Rattle.rows.specs.declared.Answer.{Answer}
+use Rattle.rows.specs.Numbers.{plus0}
 
 -- "Each answer has number, place and value; the value is +0 except at 13"
 abbrev pub refused : ℕ → ℕ → Answer

@@ -8,8 +8,8 @@ use native.Mathlib.Numerals.{add-one}
 use native.Mathlib.Omega.{arith}
 use borrow.Author.Tests.{eqb-true, eq-eqb, ne-eqb}
 use lib.Dec.{eqb}
-use Rattle.lists.specs.declared.rows.Answer.{Answer}
-use Rattle.lists.specs.Scan.{accepted, refused, row, _then_, scan, some}
+use Rattle.rows.specs.declared.Answer.{Answer}
+use Rattle.rows.specs.Scan.{accepted, refused, row, _then_, scan, some}
 
 -- ---- one row
 pub row-holds : {test : Bool} (number place : ℕ) → test ≡ true → row test number place ≡ accepted

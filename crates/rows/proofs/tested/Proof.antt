@@ -1,8 +1,8 @@
 use mathlib.Core.Path.{sym, _∙_}
 use borrow.Author.Needs.{needs}
-use Rattle.lists.proofs.ScanLaws.{row-holds, row-fails}
-use Rattle.lists.proofs.rows.tested.Statement.{statement}
-use Rattle.lists.proofs.rows.tested.Tie as tie
+use Rattle.rows.proofs.ScanLaws.{row-holds, row-fails}
+use Rattle.rows.proofs.tested.Statement.{statement}
+use Rattle.rows.proofs.tested.Tie as tie
 
 returns : tie.Need-returns
 returns c = c .accept .ensures ∙ sym (row-holds _ _ (c .before .if1 .taken))

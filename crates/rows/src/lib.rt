@@ -1,7 +1,7 @@
 // What a row of the refusal table answers.
 ghost use mathlib.Core.Path.{_≡_};
-ghost use Rattle.lists.specs.Numbers.{within};
-ghost use Rattle.lists.specs.Scan.{accepted, refused, row, _then_};
+ghost use Rattle.rows.specs.Numbers.{within};
+ghost use Rattle.rows.specs.Scan.{accepted, refused, row, _then_};
 
 // Number, place and value. Number 0 accepts.
 pub struct Answer {
