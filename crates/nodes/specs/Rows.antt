@@ -25,11 +25,12 @@ row7 tri i = row (isNamed tri i) 7 i
 unfoldable pub row8 : List Float → List ℕ → ℕ → Answer
 row8 h kind i = row (isNode (getD h i nan) (getD kind i 0)) 8 i
 
--- "Order: 1, 2, then triangle by triangle 3, 4, 5, then 6, 7, 8, 9, and the first place in each."
+-- "7, 8, 9, and the first place in each"
 unfoldable pub nodeRows : ℕ → List ℕ → List Float → List ℕ → Parameters → Answer
 nodeRows n tri h kind p = scan (row7 tri) n then scan (row8 h kind) n then row9 p
 
--- "Every call on a run begins with rows 1 to 9 over the slices lent to it. Row 6 is tested only when a mesh is opened". asked: what the call tests before them
+-- "Order: 1, 2, then triangle by triangle 3, 4, 5, then 6, 7, 8, 9, and the first place in each." asked: what the call tests before them
+-- "Every call on a run begins with rows 1 to 9 over the slices lent to it. Row 6 is tested only when a mesh is opened"
 unfoldable pub meshRows : Answer → Mesh → Parameters → Answer
 meshRows asked m p = shapeRows asked m then nodeRows (N m) (m .tri) (m .h) (m .kind) p
 

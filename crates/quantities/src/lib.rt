@@ -1,4 +1,5 @@
 // What the formulas of document 01 read and give, as records, and the arithmetic on them.
+
 // The acceleration of gravity, g.
 pub const G: f64 = 9.81;
 

@@ -4,7 +4,7 @@ use quantities::Sides;
 ghost use mathlib.Core.Path.{_≡_};
 ghost use Rattle.triangle.specs.Triangle.{mean, slope, means};
 
-// The gradients and means of one triangle.
+// hb, Ub, Vb, Z, Qx, Qy, Gx, Gy, Sx and Sy.
 pub struct Means {
     pub hb: f64,
     pub ub: f64,

@@ -74,7 +74,7 @@ module _ (run : Parameters) (node : Push) where
 unfoldable pub flowOf : Parameters → ℕ → Push → Flow
 flowOf run kind x = cond (eqb kind 2) (record { u = plus0; v = plus0 }) (flow run x)
 
--- from the present wind and the forcing's new one
+-- what they are made from: a node, the present wind and the forcing's new one, S, z', Px and Py
 abbrev pub pushOf : Node → Wind → Forcing → Float → Float → Float → Float → Push
 pushOf c w f s rise px py = record {
   h = c .h;
