@@ -14,6 +14,7 @@ ghost use Rattle.passes.specs.Settle.{lentRooms};
 ghost use Rattle.saves.specs.Save.{saveOut, saveOf};
 ghost use Rattle.loads.specs.Load.{loadOf};
 ghost use Rattle.forcings.specs.Forcings.{takenOf};
+ghost use Rattle.grids.specs.Grid.{grid, readOut, readOf};
 ghost use Rattle.capi.specs.Numbers.{parameters, clock, forcing, answer, reply, taken};
 
 // Hands back what a call on a run replies: all but the number through pointers.
@@ -185,4 +186,23 @@ pub extern "C" fn surge_read_forcing(
     *wx = read.forcing.wx;
     *wy = read.forcing.wy;
     read.answer.number
+}
+
+// Reads a grid file into the rooms of a mesh.
+#[no_mangle]
+pub extern "C" fn surge_read_grid(
+    x: &mut [i32],
+    y: &mut [i32],
+    h: &mut [f64],
+    tri: &mut [u16],
+    place: &mut usize,
+    value: &mut f64,
+    text: &[u8],
+) -> u32
+    ensures { λ r. ⌜ readOut (answer r (now (place .exit)) (now (value .exit))) (grid (now (x .exit)) (now (y .exit)) (now (h .exit)) (now (tri .exit))) ≡ readOf (grid (now (x .entry)) (now (y .entry)) (now (h .entry)) (now (tri .entry))) (now (text .entry)) ⌝ }
+{
+    let read = grids::read_grid(x, y, h, tri, text);
+    *place = read.place;
+    *value = read.value;
+    read.number
 }

@@ -5,6 +5,7 @@ use Rattle.surge.specs.Lent.{After, after}
 use Rattle.passes.specs.Settle.{Settled, settled}
 use Rattle.surge.specs.Step.{StepOut, stepOut}
 use Rattle.saves.specs.Save.{SaveOut, saveOut}
+use Rattle.grids.specs.Grid.{grid, ReadOut, readOut}
 use Rattle.forcings.specs.declared.Taken.{Taken}
 use Rattle.capi.specs.Numbers.{clock, forcing, answer, reply, taken}
 use Rattle.statements.specs.Determined.{EachDetermined, EachCallAsksNothing}
@@ -74,6 +75,9 @@ each-determined = record {
         ap (λ (o : StepOut). o .reply) e,
         λ i. (e i .rooms .next, (e i .rooms .work, (e i .rooms .sums, (tt, (tt, (tt, (tt, (tt, (tt, (tt, (tt, (tt, tt)))))))))))),
       );
+  grids·read-grid-determined = λ κs a x y v w p q.
+      let e : readOut x (grid (v .0) (v .1 .0) (v .1 .1 .0) (v .1 .1 .1 .0)) ≡ readOut y (grid (w .0) (w .1 .0) (w .1 .1 .0) (w .1 .1 .1 .0)) = same p q in
+      (ap (λ (o : ReadOut). o .answer) e, λ i. (e i .rooms .x, (e i .rooms .y, (e i .rooms .h, (e i .rooms .tri, (tt, tt))))));
   forcings·read-forcing-determined = λ κs a x y v w p q. (same p q, refl);
   saves·save-determined = λ κs a x y v w p q.
       let e : saveOut x (v .0) ≡ saveOut y (w .0) = same p q in
@@ -106,6 +110,11 @@ each-determined = record {
         ap (λ (o : Taken). o .answer .number) e,
         λ i. (e i .answer .place, (e i .answer .value, (e i .forcing .elevation, (e i .forcing .wx, (e i .forcing .wy, (tt, (tt, tt))))))),
       );
+  capi·surge-read-grid-determined = λ κs a x y v w p q.
+      let e : readOut (answer x (v .1 .1 .1 .1 .0) (v .1 .1 .1 .1 .1 .0)) (grid (v .0) (v .1 .0) (v .1 .1 .0) (v .1 .1 .1 .0)) ≡ readOut (answer y (w .1 .1 .1 .1 .0) (w .1 .1 .1 .1 .1 .0)) (grid (w .0) (w .1 .0) (w .1 .1 .0) (w .1 .1 .1 .0)) = same p q in (
+        ap (λ (o : ReadOut). o .answer .number) e,
+        λ i. (e i .rooms .x, (e i .rooms .y, (e i .rooms .h, (e i .rooms .tri, (e i .answer .place, (e i .answer .value, (tt, tt))))))),
+      );
   refusals·refusal-determined = λ κs a x y v w p q. (same p q, refl);
   forcelog·cold-determined = λ κs a x y v w p q. (same p q, refl);
   forcelog·take-determined = λ κs a x y v w p q. (same p q, refl);
@@ -120,6 +129,7 @@ each-call-asks-nothing = record {
   surge·step-asks-nothing = λ _ _. tt;
   saves·save-asks-nothing = λ _ _. tt;
   loads·load-asks-nothing = λ _ _. tt;
+  grids·read-grid-asks-nothing = λ _ _. tt;
   forcings·read-forcing-asks-nothing = λ _ _. tt;
   forcelog·take-asks-nothing = λ _ _. tt;
   forcelog·end-asks-nothing = λ _ _. tt;
@@ -128,4 +138,5 @@ each-call-asks-nothing = record {
   capi·surge-save-asks-nothing = λ _ _. tt;
   capi·surge-load-asks-nothing = λ _ _. tt;
   capi·surge-read-forcing-asks-nothing = λ _ _. tt;
+  capi·surge-read-grid-asks-nothing = λ _ _. tt;
 }

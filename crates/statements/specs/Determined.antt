@@ -105,6 +105,8 @@ use Rattle.surge.proofs.open.Kinds as surge·open-kinds
 use Rattle.surge.proofs.open.Reads as surge·open-reads
 use Rattle.surge.proofs.step.Kinds as surge·step-kinds
 use Rattle.surge.proofs.step.Reads as surge·step-reads
+use Rattle.grids.proofs.read_grid.Kinds as grids·read-grid-kinds
+use Rattle.grids.proofs.read_grid.Reads as grids·read-grid-reads
 use Rattle.forcings.proofs.read_forcing.Kinds as forcings·read-forcing-kinds
 use Rattle.forcings.proofs.read_forcing.Reads as forcings·read-forcing-reads
 use Rattle.saves.proofs.save.Kinds as saves·save-kinds
@@ -121,6 +123,8 @@ use Rattle.capi.proofs.surge_load.Kinds as capi·surge-load-kinds
 use Rattle.capi.proofs.surge_load.Reads as capi·surge-load-reads
 use Rattle.capi.proofs.surge_read_forcing.Kinds as capi·surge-read-forcing-kinds
 use Rattle.capi.proofs.surge_read_forcing.Reads as capi·surge-read-forcing-reads
+use Rattle.capi.proofs.surge_read_grid.Kinds as capi·surge-read-grid-kinds
+use Rattle.capi.proofs.surge_read_grid.Reads as capi·surge-read-grid-reads
 use Rattle.refusals.proofs.refusal.Kinds as refusals·refusal-kinds
 use Rattle.refusals.proofs.refusal.Reads as refusals·refusal-reads
 use Rattle.forcelog.proofs.cold.Kinds as forcelog·cold-kinds
@@ -187,6 +191,7 @@ pub record EachDetermined : Type 0 where
   pub surge·Clock·wind-determined : Determined surge·Clock·wind-kinds.ps surge·Clock·wind-kinds.r surge·Clock·wind-reads.Post
   pub surge·open-determined : Determined surge·open-kinds.ps surge·open-kinds.r surge·open-reads.Post
   pub surge·step-determined : Determined surge·step-kinds.ps surge·step-kinds.r surge·step-reads.Post
+  pub grids·read-grid-determined : Determined grids·read-grid-kinds.ps grids·read-grid-kinds.r grids·read-grid-reads.Post
   pub forcings·read-forcing-determined : Determined forcings·read-forcing-kinds.ps forcings·read-forcing-kinds.r forcings·read-forcing-reads.Post
   pub saves·save-determined : Determined saves·save-kinds.ps saves·save-kinds.r saves·save-reads.Post
   pub loads·load-determined : Determined loads·load-kinds.ps loads·load-kinds.r loads·load-reads.Post
@@ -195,6 +200,7 @@ pub record EachDetermined : Type 0 where
   pub capi·surge-save-determined : Determined capi·surge-save-kinds.ps capi·surge-save-kinds.r capi·surge-save-reads.Post
   pub capi·surge-load-determined : Determined capi·surge-load-kinds.ps capi·surge-load-kinds.r capi·surge-load-reads.Post
   pub capi·surge-read-forcing-determined : Determined capi·surge-read-forcing-kinds.ps capi·surge-read-forcing-kinds.r capi·surge-read-forcing-reads.Post
+  pub capi·surge-read-grid-determined : Determined capi·surge-read-grid-kinds.ps capi·surge-read-grid-kinds.r capi·surge-read-grid-reads.Post
   pub refusals·refusal-determined : Determined refusals·refusal-kinds.ps refusals·refusal-kinds.r refusals·refusal-reads.Post
   pub forcelog·cold-determined : Determined forcelog·cold-kinds.ps forcelog·cold-kinds.r forcelog·cold-reads.Post
   pub forcelog·take-determined : Determined forcelog·take-kinds.ps forcelog·take-kinds.r forcelog·take-reads.Post
@@ -209,6 +215,7 @@ pub record EachCallAsksNothing : Type 0 where
   pub surge·step-asks-nothing : AsksNothing surge·step-kinds.ps surge·step-reads.Asked
   pub saves·save-asks-nothing : AsksNothing saves·save-kinds.ps saves·save-reads.Asked
   pub loads·load-asks-nothing : AsksNothing loads·load-kinds.ps loads·load-reads.Asked
+  pub grids·read-grid-asks-nothing : AsksNothing grids·read-grid-kinds.ps grids·read-grid-reads.Asked
   pub forcings·read-forcing-asks-nothing : AsksNothing forcings·read-forcing-kinds.ps forcings·read-forcing-reads.Asked
   pub forcelog·take-asks-nothing : AsksNothing forcelog·take-kinds.ps forcelog·take-reads.Asked
   pub forcelog·end-asks-nothing : AsksNothing forcelog·end-kinds.ps forcelog·end-reads.Asked
@@ -217,3 +224,4 @@ pub record EachCallAsksNothing : Type 0 where
   pub capi·surge-save-asks-nothing : AsksNothing capi·surge-save-kinds.ps capi·surge-save-reads.Asked
   pub capi·surge-load-asks-nothing : AsksNothing capi·surge-load-kinds.ps capi·surge-load-reads.Asked
   pub capi·surge-read-forcing-asks-nothing : AsksNothing capi·surge-read-forcing-kinds.ps capi·surge-read-forcing-reads.Asked
+  pub capi·surge-read-grid-asks-nothing : AsksNothing capi·surge-read-grid-kinds.ps capi·surge-read-grid-reads.Asked

@@ -8,6 +8,8 @@ use Rattle.demands.specs.Demand3.{Demand3AtSurge, AnySaveAtSurge, OpensCold, Ow
 use Rattle.worked.specs.Computed.{ComputedHolds, LatestHolds}
 use Rattle.worked.specs.Examples.{ExamplesHold}
 use Rattle.statements.specs.Printing.{PrintingHolds}
+use Rattle.statements.specs.Grids.{GridDemands, RunsOnMeshesRead}
+use Rattle.gridtext.specs.Written.{WrittenIsRead}
 
 pub record EveryStatement : Type 0 where
   pub determined : EachDetermined
@@ -27,3 +29,6 @@ pub record EveryStatement : Type 0 where
   pub latest : LatestHolds
   pub examples : ExamplesHold
   pub printing : PrintingHolds
+  pub grid-demands : GridDemands
+  pub runs-on-meshes-read : RunsOnMeshesRead
+  pub written-is-read : WrittenIsRead

@@ -1,3 +1,4 @@
 pub mod Determined
 pub mod Printing
+pub mod Grids
 pub mod Every

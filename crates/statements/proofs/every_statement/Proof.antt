@@ -11,6 +11,8 @@ use Rattle.worked.proofs.ComputedProof.{computed-holds}
 use Rattle.worked.proofs.LatestProof.{latest-holds}
 use Rattle.worked.proofs.ExamplesProof.{examples-hold}
 use Rattle.statements.proofs.PrintingProof.{printing-holds}
+use Rattle.statements.proofs.GridsProof.{grid-demands, runs-on-meshes-read}
+use Rattle.gridtext.proofs.WrittenLaws.{written-is-read}
 
 every-statement : EveryStatement
 every-statement = record {
@@ -31,6 +33,9 @@ every-statement = record {
   latest = latest-holds;
   examples = examples-hold;
   printing = printing-holds;
+  grid-demands = grid-demands;
+  runs-on-meshes-read = runs-on-meshes-read;
+  written-is-read = written-is-read;
 }
 
 -- src/lib.rt: what the function ensures

@@ -1,0 +1,9 @@
+pub mod LeftLaws
+pub mod WordLaws
+pub mod FieldLaws
+pub mod LineLaws
+pub mod RowLaws
+pub mod TextLaws
+pub mod GridLaws
+pub mod SignLaws
+pub mod FillLaws

@@ -1,0 +1,155 @@
+-- What is read of a text from one of its bytes on, for laws and for the contracts of private functions. No public contract cites it.
+use Prim.Native.Nat.{ℕ, zero, suc, _+_, _-_, _*_, _/_, _%_, _^_, _≤_, min}
+use mathlib.Core.Path.{_≡_}
+use mathlib.Core.Bool.{Bool, true, false, cond, _&&_, _||_}
+use mathlib.Core.List.{List, [], _∷_}
+use lib.Dec.{eqb, leb}
+use lib.ListN.{length}
+use lib.IntN.{ℤ}
+use lib.Ieee.{Float}
+use Rattle.lists.specs.Table.{table}
+use Rattle.rows.specs.declared.Answer.{Answer}
+use Rattle.rows.specs.Scan.{row, _then_, scan}
+use Rattle.grids.specs.Text.{lineOf, fieldsOf, fieldOf, exactly}
+use Rattle.grids.specs.Numbers.{isDigit, isNumber, numberOf, isMinus, unsigned, isWhole, wholeOf, beforeFirst, afterFirst, wholeDigits, decimals, isDepth, isShort, depthOf}
+use Rattle.grids.specs.Grid.{titleRow, countE, countN, nodeLineRows, isThree, triangleLineRows, nodeLine, triangleLine}
+use Rattle.grids.specs.declared.fields.Number.{Number}
+use Rattle.grids.specs.declared.fields.Whole.{Whole}
+use Rattle.grids.specs.declared.fields.Depth.{Depth}
+use Rattle.grids.specs.declared.entries.Counts.{Counts}
+use Rattle.grids.specs.declared.entries.NodeLine.{NodeLine}
+use Rattle.grids.specs.declared.entries.TriangleLine.{TriangleLine}
+
+-- ---- bytes at the front of what is left
+unfoldable pub unspaced : List ℕ → List ℕ
+unspaced [] = []
+unspaced (b ∷ t) = cond (eqb b 32) (unspaced t) (b ∷ t)
+
+unfoldable pub digitsOf : List ℕ → List ℕ
+digitsOf [] = []
+digitsOf (b ∷ t) = cond (isDigit b) (b ∷ digitsOf t) []
+
+-- a field ends here; the line ends here
+unfoldable pub isEnd : List ℕ → Bool
+isEnd [] = true
+isEnd (b ∷ t) = eqb b 32 || eqb b 10
+
+unfoldable pub isLineEnd : List ℕ → Bool
+isLineEnd [] = true
+isLineEnd (b ∷ t) = eqb b 10
+
+-- ---- a number is counted up to a limit, which is above every number that is compared with it
+abbrev pub most : ℕ
+most = 1800000000000000000
+
+unfoldable pub cappedFrom : ℕ → List ℕ → ℕ
+cappedFrom v [] = v
+cappedFrom v (b ∷ t) = cappedFrom (min (10 * v + (b - 48)) most) t
+
+abbrev pub capped : ℕ → ℕ
+capped v = min v most
+
+-- ---- lines: what is left of the present line, and what stands after k lines
+abbrev pub present : List ℕ → List ℕ
+present t = beforeFirst 10 t
+
+unfoldable pub afterLines : ℕ → List ℕ → List ℕ
+afterLines zero t = t
+afterLines (suc k) t = afterLines k (afterFirst 10 t)
+
+-- ---- a field was read: t is what was left before it, `rest` what is left after it
+abbrev pub first : List ℕ → List ℕ
+first t = fieldOf (present t) 0
+
+pub record Seen (is : List ℕ → Bool) (t : List ℕ) (fine : Bool) (rest : List ℕ) : Type 0 where
+  pub holds : fine ≡ is (first t)
+  pub fields : fine ≡ true → fieldsOf (present t) ≡ first t ∷ fieldsOf (present rest)
+  pub line : fine ≡ true → afterFirst 10 rest ≡ afterFirst 10 t
+
+pub record NumberSeen (t : List ℕ) (r : Number) (rest : List ℕ) : Type 0 where
+  pub seen : Seen isNumber t (r .fine) rest
+  pub value : r .fine ≡ true → r .value ≡ capped (numberOf (first t))
+
+pub record WholeSeen (t : List ℕ) (r : Whole) (rest : List ℕ) : Type 0 where
+  pub seen : Seen isWhole t (r .fine) rest
+  pub minus : r .fine ≡ true → r .minus ≡ isMinus (first t)
+  pub size : r .fine ≡ true → r .size ≡ capped (numberOf (unsigned (first t)))
+
+-- the size of a depth, in thousandths
+unfoldable pub sizeOf : List ℕ → ℕ
+sizeOf f = numberOf (wholeDigits f) * 1000 + numberOf (decimals f) * 10 ^ (3 - length (decimals f))
+
+pub record DepthSeen (t : List ℕ) (r : Depth) (rest : List ℕ) : Type 0 where
+  pub seen : Seen isDepth t (r .fine) rest
+  pub minus : r .fine ≡ true → r .minus ≡ isMinus (first t)
+  pub short : r .fine ≡ true → r .short ≡ isShort (first t)
+  pub size : r .fine ≡ true → r .short ≡ true → r .size ≡ sizeOf (first t)
+  pub small : r .size ≤ 2 ^ 53
+
+-- ---- the rows of the second line, for rooms of these lengths
+unfoldable pub isRoomed : ℕ → ℕ → ℕ → ℕ → ℕ → ℕ → Bool
+isRoomed x y h tri n e = eqb x n && eqb y n && eqb h n && eqb tri (3 * e)
+
+unfoldable pub lineCounts : ℕ → ℕ → ℕ → ℕ → List ℕ → Answer
+lineCounts x y h tri line =
+    row (exactly (isNumber ∷ isNumber ∷ []) (fieldsOf line)) 30 1
+    then row (isRoomed x y h tri (numberOf (fieldOf line 1)) (numberOf (fieldOf line 0))) 33 1
+
+-- all rows of a text, for rooms of these lengths
+unfoldable pub textRows : ℕ → ℕ → ℕ → ℕ → List ℕ → Answer
+textRows x y h tri t =
+    titleRow t
+    then lineCounts x y h tri (lineOf t 1)
+    then scan (λ i. nodeLineRows i (nodeLine t i)) (countN t)
+    then scan (λ k. triangleLineRows (countN t) k (triangleLine t k)) (countE t)
+
+-- ---- what the lines from t on fill: n nodes, and the corners of triangles
+pub record NodesFilled (n : ℕ) (t : List ℕ) (x y : List ℤ) (h : List Float) (rest : List ℕ) : Type 0 where
+  pub its-x : x ≡ table n (λ i. wholeOf (fieldOf (lineOf t i) 1))
+  pub its-y : y ≡ table n (λ i. wholeOf (fieldOf (lineOf t i) 2))
+  pub its-h : h ≡ table n (λ i. depthOf (fieldOf (lineOf t i) 3))
+  pub after : rest ≡ afterLines n t
+
+abbrev pub cornerIn : List ℕ → ℕ → ℕ
+cornerIn t j = numberOf (fieldOf (lineOf t (j / 3)) (2 + j % 3)) - 1
+
+-- ---- a line was read: t is what was left before it
+abbrev pub countTests : List (List ℕ → Bool)
+countTests = isNumber ∷ isNumber ∷ []
+
+abbrev pub nodeTests : List (List ℕ → Bool)
+nodeTests = isNumber ∷ isWhole ∷ isWhole ∷ isDepth ∷ []
+
+abbrev pub triangleTests : List (List ℕ → Bool)
+triangleTests = isNumber ∷ isThree ∷ isNumber ∷ isNumber ∷ isNumber ∷ []
+
+abbrev pub its : List ℕ → ℕ → List ℕ
+its t j = fieldOf (present t) j
+
+pub record LineSeen (tests : List (List ℕ → Bool)) (t : List ℕ) (fine : Bool) (rest : List ℕ) : Type 0 where
+  pub holds : fine ≡ exactly tests (fieldsOf (present t))
+  pub after : fine ≡ true → rest ≡ afterFirst 10 t
+
+pub record CountsSeen (t : List ℕ) (r : Counts) (rest : List ℕ) : Type 0 where
+  pub seen : LineSeen countTests t (r .fine) rest
+  pub e : r .fine ≡ true → r .e ≡ capped (numberOf (its t 0))
+  pub n : r .fine ≡ true → r .n ≡ capped (numberOf (its t 1))
+
+pub record NodeSeen (t : List ℕ) (r : NodeLine) (rest : List ℕ) : Type 0 where
+  pub seen : LineSeen nodeTests t (r .fine) rest
+  pub number : r .fine ≡ true → r .number ≡ capped (numberOf (its t 0))
+  pub x-minus : r .fine ≡ true → r .x .minus ≡ isMinus (its t 1)
+  pub x-size : r .fine ≡ true → r .x .size ≡ capped (numberOf (unsigned (its t 1)))
+  pub y-minus : r .fine ≡ true → r .y .minus ≡ isMinus (its t 2)
+  pub y-size : r .fine ≡ true → r .y .size ≡ capped (numberOf (unsigned (its t 2)))
+  pub h-minus : r .fine ≡ true → r .h .minus ≡ isMinus (its t 3)
+  pub h-short : r .fine ≡ true → r .h .short ≡ isShort (its t 3)
+  pub h-size : r .fine ≡ true → r .h .short ≡ true → r .h .size ≡ sizeOf (its t 3)
+  pub h-small : r .h .size ≤ 2 ^ 53
+
+pub record TriangleSeen (t : List ℕ) (r : TriangleLine) (rest : List ℕ) : Type 0 where
+  pub seen : LineSeen triangleTests t (r .fine) rest
+  pub number : r .fine ≡ true → r .number ≡ capped (numberOf (its t 0))
+  pub first : r .fine ≡ true → r .first ≡ capped (numberOf (its t 2))
+  pub second : r .fine ≡ true → r .second ≡ capped (numberOf (its t 3))
+  pub third : r .fine ≡ true → r .third ≡ capped (numberOf (its t 4))
