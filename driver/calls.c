@@ -102,3 +102,11 @@ void call_read(struct script *s, uint32_t expected)
     fprintf(s->out, "forcing %016" PRIX64 " %016" PRIX64 " %016" PRIX64 "\n", pattern_of_made(s->elevation), pattern_of_made(s->wx_new),
             pattern_of_made(s->wy_new));
 }
+
+void call_grid(struct script *s)
+{
+    size_t place;
+    double value;
+    uint32_t number = surge_read_grid(LENT(s, X), LENT(s, Y), LENT(s, H), LENT(s, TRI), &place, &value, LENT(s, TEXT));
+    print_answer(s->out, "grid", number, place, value);
+}

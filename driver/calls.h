@@ -31,5 +31,6 @@ void call_step(struct script *s);
 void call_save(struct script *s);
 void call_load(struct script *s);
 void call_read(struct script *s, uint32_t expected);
+void call_grid(struct script *s);
 
 #endif

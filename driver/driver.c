@@ -186,6 +186,11 @@ static enum outcome command_read(struct script *s, struct words *w)
     return DONE;
 }
 
+static enum outcome command_grid(struct script *s, struct words *w)
+{
+    return call(s, w, call_grid);
+}
+
 /* ---- printing */
 
 static enum outcome print(struct script *s, struct words *w)
@@ -244,6 +249,7 @@ static enum outcome command(struct script *s, const char *line, size_t length)
         {"save", command_save},
         {"load", command_load},
         {"read", command_read},
+        {"grid", command_grid},
         {"print", print},
         {"digest", digest},
         {"echo", echo},

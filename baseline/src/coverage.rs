@@ -3,19 +3,20 @@
 //! refusal left as found.
 
 mod conditions;
+mod grids;
 mod names;
 pub(crate) mod nans;
 mod wanted;
 
-use crate::generate::generate;
+use crate::generate::{generate, Family};
 use crate::script::{run_watched, Call, Called, Script};
 use conditions::conditions;
 use std::collections::{BTreeMap, BTreeSet};
 use wanted::{all_conditions, Reached};
 
 /// Every number that a call can answer.
-const NUMBERS: [u32; 19] = [
-    0, 1, 2, 3, 4, 5, 6, 7, 8, 9, 10, 11, 12, 13, 20, 21, 22, 23, 24,
+const NUMBERS: [u32; 23] = [
+    0, 1, 2, 3, 4, 5, 6, 7, 8, 9, 10, 11, 12, 13, 20, 21, 22, 23, 24, 30, 31, 32, 33,
 ];
 
 /// The rows whose places are told apart.
@@ -50,6 +51,8 @@ struct Trail {
     places: BTreeSet<(Call, u32, usize)>,
     conditions: BTreeSet<Reached>,
     calls: usize,
+    /// Whether the mesh is one that was read from a grid text.
+    mesh_read: bool,
 }
 
 impl Trail {
@@ -62,6 +65,12 @@ impl Trail {
         }
         let kept = nans::kept(script, called);
         for condition in conditions(script, called).into_iter().chain(kept) {
+            self.conditions.insert((call, number, condition));
+        }
+        if call == Call::Grid {
+            self.mesh_read = number == 0;
+        } else if self.mesh_read {
+            let condition = String::from(grids::ON_READ);
             self.conditions.insert((call, number, condition));
         }
     }
@@ -87,6 +96,7 @@ fn pairs(printed: &[u8]) -> BTreeSet<(u32, u32)> {
 /// The counts over all scripts.
 #[derive(Default)]
 struct Coverage {
+    wanted: Vec<Reached>,
     scripts: usize,
     bad_lines: usize,
     calls: usize,
@@ -111,10 +121,11 @@ impl Coverage {
     }
 
     /// The conditions that no script reached.
-    fn missed(&self) -> Vec<Reached> {
-        let mut all = all_conditions();
-        all.retain(|condition| self.conditions.of(condition) == 0);
-        all
+    fn missed(&self) -> Vec<&Reached> {
+        let wanted = self.wanted.iter();
+        wanted
+            .filter(|condition| self.conditions.of(condition) == 0)
+            .collect()
     }
 
     fn text(&self) -> String {
@@ -158,7 +169,7 @@ impl Coverage {
     }
 
     fn ending(&self) -> String {
-        let (all, missed) = (all_conditions().len(), self.missed());
+        let (all, missed) = (self.wanted.len(), self.missed());
         let mut text = format!("\npairs of rows broken at once: {}\n", self.pairs.0.len());
         text += &format!("conditions reached: {} of {all}\n", all - missed.len());
         for (call, number, condition) in missed {
@@ -168,12 +179,15 @@ impl Coverage {
     }
 }
 
-/// Runs the scripts of a seed and tells what they reached; and whether they
-/// reached everything, with no bad line.
-pub fn coverage(seed: u64, first: u64, count: u64) -> (String, bool) {
-    let mut coverage = Coverage::default();
+/// Runs scripts of a family and a seed and tells what they reached; and whether
+/// they reached everything, with no bad line.
+pub fn coverage(family: Family, seed: u64, first: u64, count: u64) -> (String, bool) {
+    let mut coverage = Coverage {
+        wanted: all_conditions(family),
+        ..Coverage::default()
+    };
     for index in first..first.saturating_add(count) {
-        coverage.add(&generate(seed, index));
+        coverage.add(&generate(family, seed, index));
     }
     let whole = coverage.missed().is_empty() && coverage.bad_lines == 0;
     (coverage.text(), whole)

@@ -4,6 +4,7 @@
 
 pub(crate) mod dice;
 mod faults;
+mod grids;
 mod lines;
 mod nans;
 mod pen;
@@ -18,19 +19,41 @@ use dice::Dice;
 use pen::Pen;
 use worlds::Manner;
 
-/// The script of a seed and an index.
-pub fn generate(seed: u64, index: u64) -> Vec<u8> {
+/// The families of scripts: each has draws of its own, and its own conditions
+/// to reach.
+#[derive(Clone, Copy, Debug, PartialEq)]
+pub enum Family {
+    /// The calls on runs, and forcing lines.
+    Runs,
+    /// Grid texts, and runs on the meshes that are read from them.
+    Grids,
+}
+
+/// The script of a family, a seed and an index.
+pub fn generate(family: Family, seed: u64, index: u64) -> Vec<u8> {
     let mut pen = Pen::new(Dice::of(seed, index));
-    pen.say(format!("# seed {seed}, script {index}"));
-    match pen.dice.below(100) {
-        0..26 => runs::run(&mut pen),
-        26..68 => faults::faults(&mut pen),
-        68..86 => texts::texts(&mut pen),
-        86..93 => lines::reads(&mut pen),
-        93..99 => runs::raw(&mut pen),
-        _ => full(&mut pen),
+    match family {
+        Family::Runs => {
+            pen.say(format!("# seed {seed}, script {index}"));
+            runs_and_lines(&mut pen);
+        }
+        Family::Grids => {
+            pen.say(format!("# grids, seed {seed}, script {index}"));
+            grids::grids(&mut pen);
+        }
     }
     pen.into_text()
+}
+
+fn runs_and_lines(pen: &mut Pen) {
+    match pen.dice.below(100) {
+        0..26 => runs::run(pen),
+        26..68 => faults::faults(pen),
+        68..86 => texts::texts(pen),
+        86..93 => lines::reads(pen),
+        93..99 => runs::raw(pen),
+        _ => full(pen),
+    }
 }
 
 /// A mesh of as many nodes and triangles as row 2 lets through, and then of one

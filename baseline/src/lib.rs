@@ -1,16 +1,18 @@
 //! The independent second program of the storm-surge product.
 //!
-//! It is written from document 01 ("What the build includes and its rules")
-//! alone and laid out by that document's sections. Comments in quotation marks
-//! are the document's own sentences. "Arithmetic is IEEE 754 binary64, rounded
-//! to nearest even once per operation": every formula stands here as plain
-//! `f64` operations in the document's order, with no fused operation.
+//! It is written from document 01 ("What the build includes and its rules") and
+//! the requests of document 02 alone and laid out by their sections. Comments
+//! in quotation marks are the documents' own sentences. "Arithmetic is IEEE 754
+//! binary64, rounded to nearest even once per operation": every formula stands
+//! here as plain `f64` operations in the document's order, with no fused
+//! operation.
 //!
 //! - `records`: what goes into the calls and comes back, [`Answer`] first;
 //! - [`mesh`]: what is lent, the triangle geometry, rows 1 to 9, [`open`];
 //! - [`step`](mod@step): rows 10 to 13, elevation, velocity, [`step()`];
 //! - [`frames`]: digits, fields, check byte, line faults, [`read_forcing`];
 //! - [`saves`]: [`save`] and [`load`];
+//! - [`grids`]: lines, fields and numbers of a grid text, [`read_grid`];
 //! - [`printing`]: the printing program and example 13 on mesh T;
 //! - [`cases`](mod@cases): inputs on which the printing program is tried;
 //! - [`script`]: calls written down, as `docs/SCRIPT.md` says, [`run`];
@@ -24,6 +26,7 @@ pub mod cases;
 pub mod coverage;
 pub mod frames;
 pub mod generate;
+pub mod grids;
 pub mod mesh;
 pub mod printing;
 mod records;
@@ -37,7 +40,8 @@ mod tests;
 pub use cases::{cases, Case};
 pub use coverage::coverage;
 pub use frames::read_forcing;
-pub use generate::generate;
+pub use generate::{generate, Family};
+pub use grids::read_grid;
 pub use mesh::open;
 pub use printing::{example_13, print};
 pub use records::{Answer, Clock, Forcing, Parameters};

@@ -12,11 +12,16 @@
 //!   generate SEED FIRST COUNT DIR` many, each to a file of its own.
 //! - `baseline coverage SEED FIRST COUNT` runs generated scripts and writes what
 //!   they reach; the exit status is 1 where something is missed.
+//!
+//! `generate` and `coverage` take the word `grids` before the seed, for the
+//! scripts of grid texts; without it they are those of runs and forcing lines.
 
+use baseline::Family;
 use std::env;
 use std::ffi::OsString;
 use std::fs;
 use std::io::{self, Read, Write};
+use std::ops::Range;
 use std::path::Path;
 use std::process::ExitCode;
 
@@ -24,8 +29,8 @@ use std::process::ExitCode;
 const BAD_LINE: u8 = 2;
 
 const USAGE: &str = "usage: baseline print | example13 | cases DIR | script [FILE…]
-    | generate SEED INDEX | generate SEED FIRST COUNT DIR
-    | coverage SEED FIRST COUNT";
+    | generate [grids] SEED INDEX | generate [grids] SEED FIRST COUNT DIR
+    | coverage [grids] SEED FIRST COUNT";
 
 fn main() -> ExitCode {
     let mut arguments = env::args_os().skip(1);
@@ -104,32 +109,50 @@ fn usage() -> io::Error {
     io::Error::other(USAGE)
 }
 
-fn generate(arguments: &[OsString]) -> io::Result<ExitCode> {
+/// The family of scripts that the first word names, and the words after it.
+fn family(arguments: &[OsString]) -> (Family, &[OsString]) {
     match arguments {
-        [seed, index] => written(&baseline::generate(number(seed)?, number(index)?)),
+        [first, rest @ ..] if first == "grids" => (Family::Grids, rest),
+        _ => (Family::Runs, arguments),
+    }
+}
+
+fn generate(arguments: &[OsString]) -> io::Result<ExitCode> {
+    let (family, arguments) = family(arguments);
+    let script = |seed, index| baseline::generate(family, seed, index);
+    match arguments {
+        [seed, index] => written(&script(number(seed)?, number(index)?)),
         [seed, first, count, folder] => {
-            generate_all(number(seed)?, number(first)?, number(count)?, folder)
+            let (seed, first, count) = (number(seed)?, number(first)?, number(count)?);
+            let indices = first..first.saturating_add(count);
+            write_all(folder, indices, |index| script(seed, index))
         }
         _ => Err(usage()),
     }
 }
 
 /// Writes each script to a file of its number, `000123.script`.
-fn generate_all(seed: u64, first: u64, count: u64, folder: &OsString) -> io::Result<ExitCode> {
+fn write_all(
+    folder: &OsString,
+    indices: Range<u64>,
+    script: impl Fn(u64) -> Vec<u8>,
+) -> io::Result<ExitCode> {
     let folder = Path::new(folder);
     fs::create_dir_all(folder)?;
-    for index in first..first.saturating_add(count) {
+    for index in indices {
         let file = folder.join(format!("{index:06}.script"));
-        fs::write(file, baseline::generate(seed, index))?;
+        fs::write(file, script(index))?;
     }
     Ok(ExitCode::SUCCESS)
 }
 
 fn coverage(arguments: &[OsString]) -> io::Result<ExitCode> {
+    let (family, arguments) = family(arguments);
     let [seed, first, count] = arguments else {
         return Err(usage());
     };
-    let (text, whole) = baseline::coverage(number(seed)?, number(first)?, number(count)?);
+    let (seed, first, count) = (number(seed)?, number(first)?, number(count)?);
+    let (text, whole) = baseline::coverage(family, seed, first, count);
     written(text.as_bytes())?;
     Ok(if whole {
         ExitCode::SUCCESS

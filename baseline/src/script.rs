@@ -5,6 +5,7 @@
 pub(crate) mod slices;
 
 use crate::frames::{pattern, read_forcing};
+use crate::grids::read_grid;
 use crate::mesh::open;
 use crate::records::{Answer, Clock, Forcing, Parameters};
 use crate::saves::{load, save};
@@ -21,7 +22,7 @@ pub struct Printed {
     pub bad_line: Option<usize>,
 }
 
-/// The five calls.
+/// The six calls.
 #[derive(Clone, Copy, Debug, PartialEq, Eq, PartialOrd, Ord)]
 pub(crate) enum Call {
     Open,
@@ -29,11 +30,19 @@ pub(crate) enum Call {
     Save,
     Load,
     Read,
+    Grid,
 }
 
 impl Call {
     /// Every call.
-    pub const ALL: [Call; 5] = [Call::Open, Call::Step, Call::Save, Call::Load, Call::Read];
+    pub const ALL: [Call; 6] = [
+        Call::Open,
+        Call::Step,
+        Call::Save,
+        Call::Load,
+        Call::Read,
+        Call::Grid,
+    ];
 
     /// The call that a command makes.
     fn of(command: &[u8]) -> Option<Call> {
@@ -50,6 +59,7 @@ impl Call {
             Call::Save => "save",
             Call::Load => "load",
             Call::Read => "read",
+            Call::Grid => "grid",
         }
     }
 }
@@ -229,6 +239,10 @@ impl Script {
                 let (answer, forcing) = read_forcing(&self.line.0, expected);
                 self.hand_back_forcing(answer, forcing)
             }
+            Call::Grid => {
+                let answer = self.grid();
+                self.print_answer(call, answer)
+            }
         };
         Some(Called {
             call,
@@ -283,6 +297,12 @@ impl Script {
         let (text, h, kind) = (&self.text.0, &self.h.0, &self.kind.0);
         let state = &mut self.state.0;
         load(state, text, x, y, tri, h, kind, self.p, self.clock)
+    }
+
+    fn grid(&mut self) -> Answer {
+        let (x, y) = (&mut self.x.0, &mut self.y.0);
+        let (h, tri) = (&mut self.h.0, &mut self.tri.0);
+        read_grid(x, y, h, tri, &self.text.0)
     }
 
     /// Prints `NAME NUMBER PLACE VALUE`.

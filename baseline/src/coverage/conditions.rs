@@ -1,6 +1,7 @@
 //! Which condition of a row a call met, worked out from what the script holds
 //! after it: a refusal leaves everything as found but, at 13, the work room.
 
+use super::grids;
 use super::names::{lent_to, side, LIMITS, PARAMETER_NAMES, RUN_NAMES};
 use crate::frames::byte_of;
 use crate::generate::values::{Range, COLUMN, DEPTH, ELEVATION, PARAMETERS, RUNS, VELOCITY, WIND};
@@ -17,6 +18,7 @@ pub(crate) fn conditions(script: &Script, called: Called) -> Vec<String> {
     let place = called.answer.place;
     let one = |condition: String| vec![condition];
     match (called.answer.number, called.call) {
+        (_, Call::Grid) => grids::conditions(script, called.answer),
         (0, Call::Read) => accepted_line(script, called.expected),
         (0, call) => accepted(script, call),
         (1, call) => one(length(script, call)),
@@ -57,7 +59,7 @@ fn length_of(script: &Script, name: &str) -> usize {
 }
 
 /// How a length differs from the one that is due.
-fn difference(length: usize, due: usize) -> &'static str {
+pub(crate) fn difference(length: usize, due: usize) -> &'static str {
     match length {
         0 => "empty",
         _ if length + 1 == due => "one shorter",

@@ -11,7 +11,7 @@ const SORTS: [&str; 2] = ["a quiet NaN", "a signalling NaN"];
 /// The bit of a NaN's pattern that makes it a quiet one.
 const QUIET: u64 = 0x0008_0000_0000_0000;
 
-/// The rows that refuse a call on a run.
+/// The rows that refuse a call, where it is lent floats.
 fn rows(call: Call) -> &'static [u32] {
     match call {
         Call::Open => &[1, 2, 3, 4, 5, 6, 7, 8, 9],
@@ -19,6 +19,7 @@ fn rows(call: Call) -> &'static [u32] {
         Call::Save => &[1, 2, 3, 4, 5, 7, 8, 9, 10, 12, 24],
         Call::Load => &[1, 2, 3, 4, 5, 7, 8, 9, 10, 12, 20, 21, 22, 23],
         Call::Read => &[],
+        Call::Grid => &[30, 31, 32, 33],
     }
 }
 
@@ -31,6 +32,7 @@ fn places(call: Call, row: u32) -> Vec<&'static str> {
         (Call::Step, 1..=10) => vec!["state", "next", "work", "clock"],
         (Call::Step, 11 | 12) => vec!["next", "work", "clock"],
         (Call::Step, 13) => vec!["next"],
+        (Call::Grid, 30..) => vec!["h"],
         _ => Vec::new(),
     };
     if (1..=8).contains(&row) {
@@ -72,10 +74,10 @@ pub(crate) fn sort_of(float: f64) -> Option<&'static str> {
     Some(SORTS[usize::from(bits & QUIET == 0)])
 }
 
-/// Every NaN that must be seen to be kept.
-pub(crate) fn all_kept() -> Vec<Reached> {
+/// Every NaN that these calls must be seen to keep.
+pub(crate) fn all_kept(calls: &[Call]) -> Vec<Reached> {
     let mut all = Vec::new();
-    for call in Call::ALL {
+    for &call in calls {
         for &row in rows(call) {
             for place in places(call, row) {
                 all.extend(SORTS.map(|sort| (call, row, condition(place, sort))));

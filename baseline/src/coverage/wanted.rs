@@ -1,7 +1,9 @@
 //! All that a coverage is to reach.
 
+use super::grids;
 use super::names::{lent_to, LIMITS, PARAMETER_NAMES, RUN_NAMES, SIDES};
 use super::nans::all_kept;
+use crate::generate::Family;
 use crate::script::Call;
 
 /// A call, a number of the refusal table, and a condition of it.
@@ -10,8 +12,15 @@ pub(crate) type Reached = (Call, u32, String);
 /// The four calls on a run.
 const ON_A_RUN: [Call; 4] = [Call::Open, Call::Step, Call::Save, Call::Load];
 
-/// All that must be reached.
-pub(crate) fn all_conditions() -> Vec<Reached> {
+/// All that the scripts of a family must reach.
+pub(crate) fn all_conditions(family: Family) -> Vec<Reached> {
+    match family {
+        Family::Runs => runs_and_lines(),
+        Family::Grids => grids::all_conditions(),
+    }
+}
+
+fn runs_and_lines() -> Vec<Reached> {
     let mut all = Vec::new();
     for call in ON_A_RUN {
         all.extend(lengths(call));
@@ -33,17 +42,17 @@ pub(crate) fn all_conditions() -> Vec<Reached> {
     all.extend(of(Call::Save, 0, &["room just enough", "room to spare"]));
     all.extend(text_rows());
     all.extend(line_rows());
-    all.extend(all_kept());
+    all.extend(all_kept(&ON_A_RUN));
     all
 }
 
-fn of(call: Call, number: u32, conditions: &[&str]) -> Vec<Reached> {
+pub(crate) fn of(call: Call, number: u32, conditions: &[&str]) -> Vec<Reached> {
     let reached = |condition: &&str| (call, number, condition.to_string());
     conditions.iter().map(reached).collect()
 }
 
 /// Each name with each of some endings.
-fn each(call: Call, number: u32, names: &[&str], endings: &[&str]) -> Vec<Reached> {
+pub(crate) fn each(call: Call, number: u32, names: &[&str], endings: &[&str]) -> Vec<Reached> {
     let mut all = Vec::new();
     for name in names {
         for ending in endings {

@@ -18,7 +18,7 @@ fn rooms_of(call: Call) -> &'static [&'static str] {
         Call::Open => &["state"],
         Call::Step => &["state", "next", "work", "sums"],
         Call::Save | Call::Load => &["state", "text"],
-        Call::Read => &[],
+        Call::Read | Call::Grid => &[],
     }
 }
 

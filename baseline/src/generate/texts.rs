@@ -54,7 +54,7 @@ fn rooms(pen: &mut Pen) {
 }
 
 /// The lines of a text, each with its line feed.
-fn lines_of(text: &[u8]) -> Vec<Vec<u8>> {
+pub(crate) fn lines_of(text: &[u8]) -> Vec<Vec<u8>> {
     let lines = text.split_inclusive(|&byte| byte == b'\n');
     lines.map(<[u8]>::to_vec).collect()
 }

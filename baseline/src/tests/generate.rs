@@ -3,9 +3,9 @@
 
 use crate::coverage::nans::sort_of;
 use crate::generate::dice::Dice;
-use crate::generate::generate;
 use crate::generate::values::{lowest_elevation, nan, COLUMN};
 use crate::generate::worlds::{full_grid, world, Manner, World};
+use crate::generate::{generate, Family};
 use crate::script::run;
 use crate::{coverage, open, printing::P};
 
@@ -31,34 +31,45 @@ fn draws_stay_in_their_range() {
     assert_eq!(dice.between(5, 5), 5);
 }
 
+const FAMILIES: [Family; 2] = [Family::Runs, Family::Grids];
+
 #[test]
 fn same_seed_same_text() {
-    for index in 0..20 {
-        assert_eq!(generate(7, index), generate(7, index));
+    for family in FAMILIES {
+        let script = |seed, index| generate(family, seed, index);
+        for index in 0..20 {
+            assert_eq!(script(7, index), script(7, index));
+        }
+        assert_ne!(script(7, 0), script(7, 1));
+        assert_ne!(script(7, 0), script(8, 0));
     }
-    assert_ne!(generate(7, 0), generate(7, 1));
-    assert_ne!(generate(7, 0), generate(8, 0));
+    assert_ne!(generate(Family::Runs, 7, 0), generate(Family::Grids, 7, 0));
 }
 
 /// "the same on every machine": a digest of the first scripts of seed 1, which
 /// changes only where the generator is changed.
 #[test]
 fn the_scripts_of_seed_1_are_these() {
-    let mut hash = 0xCBF2_9CE4_8422_2325_u64;
-    for index in 0..100 {
-        for byte in generate(1, index) {
+    for (family, digest) in FAMILIES
+        .into_iter()
+        .zip(["262C1AAC563151F5", "B149BBEC1472F094"])
+    {
+        let mut hash = 0xCBF2_9CE4_8422_2325_u64;
+        for byte in (0..100).flat_map(|index| generate(family, 1, index)) {
             hash = (hash ^ u64::from(byte)).wrapping_mul(0x0000_0100_0000_01B3);
         }
+        assert_eq!(format!("{hash:016X}"), digest);
     }
-    assert_eq!(format!("{hash:016X}"), "262C1AAC563151F5");
 }
 
 #[test]
 fn the_first_200_scripts_have_no_bad_line() {
-    for index in 0..200 {
-        let printed = run(&generate(1, index));
-        assert_eq!(printed.bad_line, None, "script {index}");
-        assert!(!printed.text.is_empty(), "script {index}");
+    for family in FAMILIES {
+        for index in 0..200 {
+            let printed = run(&generate(family, 1, index));
+            assert_eq!(printed.bad_line, None, "{family:?} {index}");
+            assert!(!printed.text.is_empty(), "{family:?} {index}");
+        }
     }
 }
 
@@ -162,9 +173,17 @@ fn a_full_mesh_has_the_most_of_everything() {
 
 #[test]
 fn coverage_tells_what_was_reached_and_what_was_missed() {
-    let (text, whole) = coverage(1, 0, 20);
-    assert!(text.starts_with("scripts 20, with a bad line 0, calls "));
-    assert!(text.contains("\nnumber   open   step   save   load   read\n"));
-    assert!(text.contains("\nmissed: "));
-    assert!(!whole);
+    for family in FAMILIES {
+        let (text, whole) = coverage(family, 1, 0, 20);
+        assert!(text.starts_with("scripts 20, with a bad line 0, calls "));
+        assert!(text.contains("\nnumber   open   step   save   load   read   grid\n"));
+        assert!(text.contains("\nmissed: "));
+        assert!(!whole);
+    }
+}
+
+#[test]
+fn a_thousand_grid_scripts_reach_every_condition() {
+    let (text, whole) = coverage(Family::Grids, 1, 0, 1_000);
+    assert!(whole, "{text}");
 }

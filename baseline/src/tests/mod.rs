@@ -3,6 +3,7 @@
 mod examples;
 mod frames;
 mod generate;
+mod grids;
 mod mesh;
 mod printing;
 mod saves;

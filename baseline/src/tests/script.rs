@@ -521,6 +521,40 @@ fn too_few_and_too_many_words() {
     bad("read 1 2");
 }
 
+/// The bytes of a text as words.
+fn bytes(text: &str) -> String {
+    let words: Vec<String> = text.bytes().map(|byte| format!("{byte:02X}")).collect();
+    words.join(" ")
+}
+
+#[test]
+fn grid_fills_the_rooms_of_a_mesh() {
+    let text = bytes("T\n1 3\n1 0 0 8\n2 100 0 8\n3 0 100 8\n1 3 1 2 3\n");
+    let rooms = format!("fill x 3 7\nfill y 3 7\nfill h 3 {ONE}\nfill tri 3 7\nset text {text}\n");
+    let prints = "print x\nprint y\nprint h\nprint tri\n";
+    let eight = "4020000000000000";
+    let read =
+        format!("set x 0 100 0\nset y 0 0 100\nset h {eight} {eight} {eight}\nset tri 0 1 2\n");
+    printed_as(
+        &format!("{rooms}grid\n{prints}"),
+        &format!("grid 0 0 {ZERO}\n{read}"),
+    );
+    // The rooms of a refusal are as found.
+    let found = format!("set x 7 7 7\nset y 7 7 7\nset h {ONE} {ONE} {ONE}\nset tri 7 7 7\n");
+    printed_as(
+        &format!("{rooms}put text 36 34\ngrid\n{prints}"),
+        &format!("grid 30 5 {ZERO}\n{found}"),
+    );
+    // The mesh is opened as any other.
+    let opened = format!("{MESH_T}{rooms}grid\nopen\n");
+    printed_as(
+        &opened,
+        &format!("grid 0 0 {ZERO}\nopen 0 0 {ZERO}\nclock 0 {ZERO} {ZERO}\n"),
+    );
+    printed_as("grid\n", &format!("grid 30 0 {ZERO}\n"));
+    bad("grid 1");
+}
+
 #[test]
 fn a_last_line_without_a_line_feed_is_no_line() {
     let printed = run(b"set x 1\nprint x");
