@@ -1,27 +1,29 @@
 /*
  * The storm-surge run of document 01, for C.
  *
- * Five calls: surge_open, surge_step, surge_save, surge_load, surge_read_forcing. They are the product's calls of the same
- * names, exported from the proved crate `capi`; `rt staticlib capi` makes the archive target/staticlib/libcapi.a.
+ * Six calls: surge_open, surge_step, surge_save, surge_load, surge_read_forcing, and surge_read_grid of document 02's #101. They
+ * are the product's calls of the same names, exported from the proved crate `capi`; `rt staticlib capi` makes the archive
+ * target/staticlib/libcapi.a.
  *
  * Memory. Everything that a call reads or writes is the caller's, lent for the time of the call. A call keeps no pointer,
  * allocates nothing, and holds nothing from one call to the next: a run is what the caller holds. There is no global state.
  *
  * Slices. A slice is two arguments, a pointer to its first element and the number of its elements. Any number may be passed: a
- * slice of numbers that has not the length named below is refused with 1, a text or a line as its call says, and only elements
- * that are there are read or written. The pointer is aligned for its type and never NULL, even where the number is 0, since the
- * callee may take that for granted.
+ * slice of numbers that has not the length named below is refused with 1 (a room for a grid with 33), a text or a line as its
+ * call says, and only elements that are there are read or written. The pointer is aligned for its type and never NULL, even
+ * where the number is 0, since the callee may take that for granted.
  *
  * Overlap. Memory that a call may write (arguments that are not `const`) overlaps no other argument. Arguments that are only
  * read may overlap each other.
  *
- * Any contents may be lent: NaN, infinities, any bytes. A NaN is outside every range. After a refusal slices and clock are left
- * as found. The proofs know one NaN: where what was lent held a NaN, that the same one, sign and payload, is still there is tested
- * and not proved. Which NaN comes back as the value of a 13, or of a forcing line that holds one, means nothing.
+ * Any contents may be lent: NaN, infinities, any bytes. A NaN is outside every range. After a refusal slices, rooms and clock
+ * are left as found, but for the work room after a 13. The proofs know one NaN: where what was lent held a NaN, that the same
+ * one, sign and payload, is still there is tested and not proved. Which NaN comes back as the value of a 13, or of a forcing
+ * line that holds one, means nothing.
  *
- * Answers. The result is the number of the refusal table of document 01, and 0 where the call was accepted. Every call, refused
- * or not, writes `*place` and `*value`: which triangle, node, parameter or line was refused, and the offending value, which is
- * +0 except after a 13.
+ * Answers. The result is the number of the refusal table of document 01, from 30 on of document 02, and 0 where the call was
+ * accepted. Every call, refused or not, writes `*place` and `*value`: which triangle, node, parameter or line was refused, and
+ * the offending value, which is +0 except after a 13.
  *
  *      1  the triangle list is no multiple of 3, or a slice has another length
  *      2  N not 3..4,096 or E not 1..8,192
@@ -46,6 +48,14 @@
  *     22  the kind or the sequence                              place: line
  *     23  N or E differs                                        place: line
  *     24  the text room is below 70+73N                         place: 70+73N
+ *     30  a field of a grid file malformed, missing or too
+ *         many, or a line missing                               place: line
+ *     31  a node or triangle number out of order                place: line
+ *     32  x or y beyond 32 bits, a depth with more than three
+ *         decimals or nine whole digits, or a corner not
+ *         1..65,536                                             place: line
+ *     33  a room has not the length that N and E of the grid
+ *         file give                                             place: line
  */
 #ifndef SURGE_H
 #define SURGE_H
@@ -174,6 +184,29 @@ uint32_t surge_read_forcing(
     double *elevation, double *wx, double *wy,
     const uint8_t *line, size_t line_length,
     uint32_t expected);
+
+/*
+ * Reads a grid file: a title line; a line with E and N; N node lines (number, x, y, depth); E triangle lines (number, 3, three node numbers
+ * from 1). What follows is not read. A line ends at a line feed or at the end of the text. Fields are separated by spaces, which may also
+ * lead or trail. Numbers are digits, after a minus, if any, in x, y and depth; the depth's point, if any, has digits on both sides.
+ *
+ * In this order: the lines, from 0, in each 30, then 33 on line 1, and 31 and 32 on those after it. It takes part in no run and opens
+ * nothing: surge_open is called afterwards on what was read, with the kinds and the parameters, and rows 1 to 9 then decide.
+ *
+ *   x, y          room for exactly N whole metres each, N being the text's
+ *   h             room for exactly N depths: the text's thousandths divided by 1000, rounded once
+ *   tri           room for exactly 3E node numbers. They are written from 0, as the other calls take them.
+ *                 The four rooms are written when the whole text is accepted. As found after a refusal.
+ *   place, value  written: 0 when accepted and else the line; always +0
+ *   text          the bytes of the file, any number of them. No zero byte ends it.
+ */
+uint32_t surge_read_grid(
+    int32_t *x, size_t x_length,
+    int32_t *y, size_t y_length,
+    double *h, size_t h_length,
+    uint16_t *tri, size_t tri_length,
+    size_t *place, double *value,
+    const uint8_t *text, size_t text_length);
 
 #ifdef __cplusplus
 }
