@@ -1,4 +1,5 @@
-//! That the tested program makes the product's refusal tests: both are given the same faults, and must answer alike and leave the same behind.
+//! That the tested program makes the product's refusal tests in the four calls on a run: both are given the same faults, and must answer alike and
+//! leave the same behind.
 
 use crate::product::Product;
 use crate::run::{Answer, Clock, Forcing, Mesh, Program, Rooms};
@@ -120,8 +121,8 @@ pub fn refusals() -> usize {
         spoil(&mut given);
         let (numbers, product) = outcomes(&Product, &given);
         assert!(numbers.contains(row), "fault {at}: the product answers {numbers:?}, not {row}");
-        for by_pairs in [false, true] {
-            let (tested, traces) = outcomes(&Tested { by_pairs }, &given);
+        for forms_as_set in [false, true] {
+            let (tested, traces) = outcomes(&Tested { forms_as_set }, &given);
             assert!(product == traces, "fault {at}, row {row}: product {numbers:?}, tested {tested:?}");
         }
     }

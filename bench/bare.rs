@@ -1,9 +1,10 @@
 //! Plain Rust that tests nothing: the equations and the frames alone. Since nothing is refused, the new values go straight into the next state, and the
 //! work room of floats is not needed. Node numbers are trusted, lengths and digits too.
 
+use crate::bare_grids;
 use crate::formulas::{new_elevation, new_velocity, shares, slope, Corner, Sides, Terms, HELD_LAND, OPEN};
 use crate::hex;
-use crate::run::{Answer, Clock, Forcing, Mesh, Program, Rooms, State};
+use crate::run::{Answer, Clock, Forcing, GridRooms, Mesh, Program, Rooms, State};
 
 pub struct Bare;
 
@@ -136,5 +137,11 @@ impl Program for Bare {
         }
         let clock = Clock { step: hex::four_bytes(&head, 7), wx: hex::float(&head, 11), wy: hex::float(&head, 19) };
         (Answer::accepted(0), clock)
+    }
+
+    #[inline(never)]
+    fn read_grid(&self, rooms: GridRooms, text: &[u8]) -> Answer {
+        bare_grids::read(rooms, text);
+        Answer::accepted(0)
     }
 }

@@ -1,12 +1,13 @@
 //! What one program holds of a run while it is measured.
 
-use crate::run::{Answer, Clock, Forcing, Mesh, Program, Rooms};
+use crate::run::{Answer, Clock, Forcing, Grid, Mesh, Program, Rooms};
 
 pub struct Held<'a> {
     pub program: &'a dyn Program,
     pub state: Vec<f64>,
     pub text: Vec<u8>,
     pub clock: Clock,
+    pub grid: Grid,
     next: Vec<f64>,
     work: Vec<f64>,
     sums: Vec<u64>,
@@ -20,6 +21,7 @@ impl<'a> Held<'a> {
             state: vec![0.0; 4 * n],
             text: vec![0; 70 + 73 * n],
             clock: Clock::COLD,
+            grid: Grid::of([n, n, n, mesh.tri.len()]),
             next: vec![0.0; 4 * n],
             work: vec![0.0; 3 * n],
             sums: vec![0; n],
@@ -63,6 +65,16 @@ impl<'a> Held<'a> {
         let (answer, clock) = self.program.load(mesh, &mut self.state, &self.text, self.clock);
         self.accepted(answer);
         self.clock = clock;
+    }
+
+    pub fn read_grid(&mut self, text: &[u8]) {
+        let answer = self.read(text);
+        self.accepted(answer);
+    }
+
+    /// One reading of a grid text, whatever it answers.
+    pub fn read(&mut self, text: &[u8]) -> Answer {
+        self.program.read_grid(self.grid.rooms(), text)
     }
 
     fn accepted(&self, answer: Answer) {

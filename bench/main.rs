@@ -2,10 +2,12 @@
 //! `tools/bench` builds and runs it; docs/SPEED.md has the figures of one run.
 //!
 //!     bench [ROUNDS]              the tables
-//!     bench CALL PROGRAM COUNT    one call by one program, for a profiler: open, step, save or load by product, tested or bare
+//!     bench CALL PROGRAM COUNT    one call by one program, for a profiler: open, step, save, load or grid by product, tested or bare
 
 mod agree;
+mod agree_grids;
 mod bare;
+mod bare_grids;
 mod formulas;
 mod held;
 mod hex;
@@ -24,15 +26,15 @@ use tested::Tested;
 use timing::{interleaved, Times};
 use world::{forcings, World};
 
-/// A measure takes this many steps, saves and loads in each round.
+/// A measure takes this many steps, and saves, loads and grid readings, in each round.
 const STEPS: usize = 1_000;
 const SAVES: usize = 20;
 
 /// The steps of a measure of growth, times its nodes: short, since there are five.
 const NODE_STEPS: usize = 600_000;
 
-const TESTED: Tested = Tested { by_pairs: false };
-const BY_PAIRS: Tested = Tested { by_pairs: true };
+const TESTED: Tested = Tested { forms_as_set: false };
+const AS_SET: Tested = Tested { forms_as_set: true };
 
 fn main() {
     let words: Vec<String> = std::env::args().skip(1).collect();
@@ -41,11 +43,14 @@ fn main() {
     }
     let rounds = words.first().map_or(7, |word| word.parse().expect("a count of rounds"));
     println!("{} faults answered alike by the product and the tested program", agree::refusals());
+    let (faults, right) = agree_grids::readings();
+    println!("{faults} faults of grid texts and {right} right ones likewise");
     let world = World::grid(80, 50);
     let forcings = forcings(STEPS);
     let state = calls(rounds, &world, &forcings);
     growth(rounds, &forcings);
     parts_of_a_step(rounds, &world, &state, forcings[0]);
+    parts_of_a_reading(rounds, &world);
 }
 
 /// One call by one program, so many times. Steps begin anew after as many as there are forcings.
@@ -55,7 +60,7 @@ fn only(call: &str, name: &str, count: usize) {
     let programs: [&dyn Program; 3] = [&Product, &TESTED, &Bare];
     let program = programs.iter().find(|program| program.name() == name).expect("product, tested or bare");
     let mut run = Held::new(*program, &mesh);
-    let forcings = forcings(STEPS);
+    let (forcings, grid) = (forcings(STEPS), world.grid_text());
     run.save(&mesh);
     for at in 0..count {
         match call {
@@ -68,7 +73,8 @@ fn only(call: &str, name: &str, count: usize) {
             }
             "save" => run.save(&mesh),
             "load" => run.load(&mesh),
-            _ => panic!("open, step, save or load"),
+            "grid" => run.read_grid(&grid),
+            _ => panic!("open, step, save, load or grid"),
         }
     }
 }
@@ -118,7 +124,7 @@ fn line(call: &str, count: usize, times: &[Times]) {
     );
 }
 
-/// The four calls by the three programs. The state after the steps comes back.
+/// The five calls by the three programs. The state after the steps comes back.
 fn calls(rounds: usize, world: &World, forcings: &[Forcing]) -> Vec<f64> {
     let mesh = world.mesh();
     println!("N {}, E {}, {rounds} rounds, shortest round\n", mesh.nodes(), mesh.triangles());
@@ -126,8 +132,8 @@ fn calls(rounds: usize, world: &World, forcings: &[Forcing]) -> Vec<f64> {
     println!("|---|---|---|---|---|---|---|");
     let mut runs = held(&[&Product, &TESTED, &Bare], world);
     line("open", 1, &interleaved(rounds, &mut runs, |run| run.open(&mesh)));
-    let mut pairs = held(&[&Product, &BY_PAIRS, &Bare], world);
-    line("open, (b) with row 6 by pairs", 1, &interleaved(rounds, &mut pairs, |run| run.open(&mesh)));
+    let mut as_set = held(&[&Product, &AS_SET, &Bare], world);
+    line("open, (b) with row 6 by pairs", 1, &interleaved(rounds, &mut as_set, |run| run.open(&mesh)));
     let times = interleaved(rounds, &mut runs, |run| {
         run.restart();
         run.steps(&mesh, forcings);
@@ -140,8 +146,26 @@ fn calls(rounds: usize, world: &World, forcings: &[Forcing]) -> Vec<f64> {
     line("load", SAVES, &interleaved(rounds, &mut runs, |run| (0..SAVES).for_each(|_| run.load(&mesh))));
     same(&runs);
     assert!(runs[0].bits() == stepped, "another state after the load");
-    println!("\nstates after {STEPS} steps bit-equal, saves byte-equal, loads give the state back\n");
+    let by_the_byte = readings(rounds, world, &mut runs, &mut as_set);
+    println!("\nstates after {STEPS} steps bit-equal, saves byte-equal, loads give the state back, grids read bit-equal");
+    println!("{by_the_byte}\n");
     runs.swap_remove(0).state
+}
+
+/// The lines of the grid readings. What they are by the byte comes back, to stand below the table.
+fn readings(rounds: usize, world: &World, runs: &mut [Held], as_set: &mut [Held]) -> String {
+    let text = world.grid_text();
+    let read = |run: &mut Held| (0..SAVES).for_each(|_| run.read_grid(&text));
+    let times = interleaved(rounds, runs, read);
+    line("read_grid", SAVES, &times);
+    line("read_grid, (b) reading twice", SAVES, &interleaved(rounds, as_set, read));
+    let due = world.as_read().bits();
+    for run in runs.iter().chain(&*as_set) {
+        assert!(run.grid.bits() == due, "{}: another grid", run.program.name());
+    }
+    let bytes = text.len();
+    let [p, b, c] = [0, 1, 2].map(|at: usize| times[at].best() / (SAVES * bytes) as f64 * 1e9);
+    format!("read_grid for each of its {bytes} bytes: product {p:.2} ns, (b) {b:.2} ns, (c) {c:.2} ns")
 }
 
 /// The time of a step for each node, as the mesh grows.
@@ -184,4 +208,18 @@ fn parts_of_a_step(rounds: usize, world: &World, state: &[f64], forcing: Forcing
     for (name, seconds) in parts::inside(rounds, world, state, &run, forcing) {
         println!("| {name} | {} |", time(seconds));
     }
+}
+
+fn parts_of_a_reading(rounds: usize, world: &World) {
+    let programs: [&dyn Program; 3] = [&Product, &TESTED, &AS_SET];
+    let parts = parts::readings(rounds, &programs, world);
+    println!("\n| part of read_grid, by a refused call | product | (b) | (b) reading twice | product/(b) | product/(b) reading twice |");
+    println!("|---|---|---|---|---|---|");
+    let compare = |name: &str, part: fn(&(f64, f64)) -> f64| {
+        let [p, b, twice] = [0, 1, 2].map(|at: usize| part(&parts[at]));
+        println!("| {name} | {} | {} | {} | {} | {} |", time(p), time(b), time(twice), ratio(p, b), ratio(p, twice));
+    };
+    compare("refused at the last line: every line asked, no room filled", |&(asked, _)| asked);
+    compare("the rooms filled", |&(asked, whole)| whole - asked);
+    compare("the whole", |&(_, whole)| whole);
 }

@@ -1,4 +1,4 @@
-//! What a step's time is made of.
+//! What a step's time and a grid reading's time are made of.
 
 use crate::formulas::Terms;
 use crate::held::Held;
@@ -10,6 +10,9 @@ use std::hint::black_box;
 
 /// How often a part is done in each round.
 const TIMES: usize = 200;
+
+/// How often a grid text is read in each round.
+const READINGS: usize = 20;
 
 /// The seconds of a program's parts, told apart from outside by calls that are refused at a known point.
 pub struct Outside {
@@ -50,6 +53,23 @@ fn calls(rounds: usize, programs: &[&dyn Program], world: &World, state: &[f64],
         }
     });
     times.iter().map(|times| times.best() / TIMES as f64).collect()
+}
+
+/// The seconds of each program's reading of a grid text without its last line, which asks every line and fills nothing, and of the whole text.
+pub fn readings(rounds: usize, programs: &[&dyn Program], world: &World) -> Vec<(f64, f64)> {
+    let text = world.grid_text();
+    let last = text[..text.len() - 1].iter().rposition(|&byte| byte == b'\n').unwrap_or(0);
+    let mut runs: Vec<Held> = programs.iter().map(|&program| Held::new(program, &world.mesh())).collect();
+    let mut seconds = |text: &[u8], row: u32| -> Vec<f64> {
+        let times = interleaved(rounds, &mut runs, |run| {
+            for _ in 0..READINGS {
+                assert_eq!(run.read(text).number, row);
+            }
+        });
+        times.iter().map(|times| times.best() / READINGS as f64).collect()
+    };
+    let (asked, whole) = (seconds(&text[..=last], 30), seconds(&text, 0));
+    asked.into_iter().zip(whole).collect()
 }
 
 /// The seconds of the tested program's parts, each by itself.

@@ -1,6 +1,6 @@
 //! The product, through include/surge.h. Nothing checks these declarations against the header; that the three programs give the same bits does.
 
-use crate::run::{Answer, Clock, Forcing, Mesh, Program, Rooms};
+use crate::run::{Answer, Clock, Forcing, GridRooms, Mesh, Program, Rooms};
 
 #[link(name = "capi", kind = "static")]
 #[rustfmt::skip]
@@ -54,6 +54,14 @@ extern "C" {
         h: *const f64, h_length: usize,
         kind: *const u8, kind_length: usize,
         dt: f64, tau: f64, k: f64, f: f64,
+    ) -> u32;
+    fn surge_read_grid(
+        x: *mut i32, x_length: usize,
+        y: *mut i32, y_length: usize,
+        h: *mut f64, h_length: usize,
+        tri: *mut u16, tri_length: usize,
+        place: *mut usize, value: *mut f64,
+        text: *const u8, text_length: usize,
     ) -> u32;
 }
 
@@ -160,5 +168,20 @@ impl Program for Product {
             )
         };
         (r.answer(number), r.clock)
+    }
+
+    fn read_grid(&self, rooms: GridRooms, text: &[u8]) -> Answer {
+        let mut r = Reply::before(Clock::COLD);
+        let number = unsafe {
+            surge_read_grid(
+                rooms.x.as_mut_ptr(), rooms.x.len(),
+                rooms.y.as_mut_ptr(), rooms.y.len(),
+                rooms.h.as_mut_ptr(), rooms.h.len(),
+                rooms.tri.as_mut_ptr(), rooms.tri.len(),
+                &mut r.place, &mut r.value,
+                text.as_ptr(), text.len(),
+            )
+        };
+        r.answer(number)
     }
 }

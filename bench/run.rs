@@ -82,6 +82,47 @@ pub struct Rooms<'a> {
     pub sums: &'a mut [u64],
 }
 
+/// The slices that a grid text is read into.
+pub struct GridRooms<'a> {
+    pub x: &'a mut [i32],
+    pub y: &'a mut [i32],
+    pub h: &'a mut [f64],
+    pub tri: &'a mut [u16],
+}
+
+impl GridRooms<'_> {
+    /// Of x, y, h and the triangles.
+    pub fn lengths(&self) -> [usize; 4] {
+        [self.x.len(), self.y.len(), self.h.len(), self.tri.len()]
+    }
+}
+
+/// What a grid text gives of a mesh.
+pub struct Grid {
+    pub x: Vec<i32>,
+    pub y: Vec<i32>,
+    pub h: Vec<f64>,
+    pub tri: Vec<u16>,
+}
+
+impl Grid {
+    /// Rooms of these lengths, of x, y, h and the triangles.
+    pub fn of([x, y, h, tri]: [usize; 4]) -> Grid {
+        Grid { x: vec![0; x], y: vec![0; y], h: vec![0.0; h], tri: vec![0; tri] }
+    }
+
+    pub fn rooms(&mut self) -> GridRooms<'_> {
+        GridRooms { x: &mut self.x, y: &mut self.y, h: &mut self.h, tri: &mut self.tri }
+    }
+
+    /// All of it, for comparing.
+    pub fn bits(&self) -> Vec<u64> {
+        let metres = self.x.iter().chain(&self.y).map(|&metres| metres as u64);
+        let depths = self.h.iter().map(|depth| depth.to_bits());
+        metres.chain(depths).chain(self.tri.iter().map(|&corner| corner.into())).collect()
+    }
+}
+
 /// A state's four runs.
 #[derive(Clone, Copy)]
 pub struct State<'a> {
@@ -108,4 +149,5 @@ pub trait Program {
     fn step(&self, mesh: &Mesh, rooms: Rooms, state: &[f64], clock: Clock, forcing: Forcing) -> (Answer, Clock);
     fn save(&self, mesh: &Mesh, text: &mut [u8], state: &[f64], clock: Clock) -> Answer;
     fn load(&self, mesh: &Mesh, state: &mut [f64], text: &[u8], clock: Clock) -> (Answer, Clock);
+    fn read_grid(&self, rooms: GridRooms, text: &[u8]) -> Answer;
 }

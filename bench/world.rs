@@ -1,7 +1,7 @@
 //! The mesh and the forcings that are measured on: a grid whose nodes are moved by a seeded dice, so that no side is alike, its west side open and its
 //! east side held land.
 
-use crate::run::{Forcing, Mesh, Parameters};
+use crate::run::{Forcing, Grid, Mesh, Parameters};
 
 /// Metres between the nodes of the grid, and how far one may be moved in x and in y.
 const SPACING: i32 = 1_000;
@@ -46,6 +46,26 @@ impl World {
 
     pub fn mesh(&self) -> Mesh<'_> {
         Mesh { x: &self.x, y: &self.y, tri: &self.tri, h: &self.h, kind: &self.kind, p: self.p }
+    }
+
+    /// The mesh as modellers write it: columns of a width, filled with spaces from the left, and depths with three decimals.
+    pub fn grid_text(&self) -> Vec<u8> {
+        let (triples, _) = self.tri.as_chunks::<3>();
+        let mut text = format!("A harbour grid, whole metres\n{:>8} {:>8}\n", triples.len(), self.x.len());
+        for (i, ((x, y), h)) in self.x.iter().zip(&self.y).zip(&self.h).enumerate() {
+            text += &format!("{:>8} {x:>10} {y:>10} {h:>10.3}\n", i + 1);
+        }
+        for (t, corners) in triples.iter().enumerate() {
+            let [a, b, c] = corners.map(|corner| u32::from(corner) + 1);
+            text += &format!("{:>8}   3 {a:>7} {b:>7} {c:>7}\n", t + 1);
+        }
+        text.into_bytes()
+    }
+
+    /// What the grid text gives: a depth of this mesh is not always its thousandths divided by 1000.
+    pub fn as_read(&self) -> Grid {
+        let h = self.h.iter().map(|h| (h * 1_000.0).round() / 1_000.0).collect();
+        Grid { x: self.x.clone(), y: self.y.clone(), h, tri: self.tri.clone() }
     }
 }
 

@@ -1,20 +1,22 @@
 //! Plain Rust that makes the same refusal tests, without `unsafe`.
 
+pub mod grids;
 pub mod mesh;
 pub mod saves;
 pub mod step;
 
-use crate::run::{Answer, Clock, Forcing, Mesh, Program, Rooms};
+use crate::run::{Answer, Clock, Forcing, GridRooms, Mesh, Program, Rooms};
 
-/// How row 6 is tested: by the legs of each node, as one would, or by pairs of triangles, as document 01 sets for the product.
+/// In the forms that one would choose, or in those that are set for the product: row 6 by pairs of triangles, as document 01 has it, and not by the
+/// legs of each node; a grid text read twice, since the product allocates nothing, and not once into rooms of its own.
 pub struct Tested {
-    pub by_pairs: bool,
+    pub forms_as_set: bool,
 }
 
 impl Program for Tested {
     fn name(&self) -> &'static str {
-        if self.by_pairs {
-            "tested, row 6 by pairs"
+        if self.forms_as_set {
+            "tested, forms as set"
         } else {
             "tested"
         }
@@ -22,7 +24,7 @@ impl Program for Tested {
 
     #[inline(never)]
     fn open(&self, mesh: &Mesh, state: &mut [f64]) -> (Answer, Clock) {
-        let row_6 = if self.by_pairs { mesh::row_6_by_pairs } else { mesh::row_6 };
+        let row_6 = if self.forms_as_set { mesh::row_6_by_pairs } else { mesh::row_6 };
         if let Err(refusal) = mesh::rows_with_6(mesh, &[(state.len(), 4)], row_6) {
             return (refusal, Clock::COLD);
         }
@@ -45,6 +47,15 @@ impl Program for Tested {
         match saves::load(mesh, state, text) {
             Ok(loaded) => (Answer::accepted(0), loaded),
             Err(refusal) => (refusal, clock),
+        }
+    }
+
+    #[inline(never)]
+    fn read_grid(&self, rooms: GridRooms, text: &[u8]) -> Answer {
+        let read = if self.forms_as_set { grids::read_twice } else { grids::read };
+        match read(rooms, text) {
+            Ok(()) => Answer::accepted(0),
+            Err(refusal) => refusal,
         }
     }
 }
