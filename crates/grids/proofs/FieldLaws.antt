@@ -11,11 +11,11 @@ use lib.ListN.{length, drop}
 use lib.Seq.{drop-drop}
 use Rattle.rows.proofs.ScanLaws.{both-left, both-right}
 use Rattle.grids.specs.Numbers.{isDigit, onlyDigits, isNumber, numberFrom, numberOf, startsWith, without, isMinus, unsigned, isWhole, beforeFirst, afterFirst, has, wholeDigits, decimals, isDepth, isShort}
-use Rattle.grids.specs.Private.{unspaced, digitsOf, isEnd, most, cappedFrom, capped, first, Seen, NumberSeen, WholeSeen, sizeOf, DepthSeen}
-use Rattle.grids.specs.declared.fields.Number.{Number}
-use Rattle.grids.specs.declared.fields.Whole.{Whole}
+use Rattle.grids.specs.Private.{unspaced, digitsOf, isEnd, most, cappedFrom, capped, GapSeen, DigitsSeen, closed, first, Seen, NumberSeen, WholeSeen, sizeOf, DepthSeen}
+use Rattle.grids.specs.declared.scanning.Gap.{Gap}
+use Rattle.grids.specs.declared.scanning.Digits.{Digits}
 use Rattle.grids.specs.declared.fields.Depth.{Depth}
-use Rattle.grids.proofs.LeftLaws.{digit-range}
+use Rattle.grids.proofs.LeftLaws.{digit-range, ends-front, starts-front, past-left}
 use Rattle.grids.proofs.WordLaws.{word, beyond, inside, digit-inside, never, nothing, first-word, seen-word}
 
 -- ---- what is left after the digits
@@ -161,35 +161,48 @@ pub no-whole : isWhole [] ≡ false
 unfolding isNumber without
 no-whole = refl
 
-module _ (t text : List ℕ) (start : ℕ) (skipped : drop start text ≡ unspaced t) where
-  -- a number
-  pub number-seen : (end value : ℕ) (e : Bool) → end ≡ start + length (digitsOf (drop start text)) → value ≡ cappedFrom 0 (digitsOf (drop start text))
-      → e ≡ isEnd (drop end text) → NumberSeen t (record { fine = ltb start end && e; value = value; next = end }) (drop end text)
-  number-seen end value e long is ends = record {
-    seen =
-        seen-word t isNumber no-number (run-fine text start end long ends ∙ ap (λ (u : List ℕ). isNumber (word u)) skipped)
-        (λ f. run-rest text start end long ends f ∙ ap beyond skipped);
-    value = λ f.
-        is
-        ∙ ap (cappedFrom 0) (run-all text start end long ends f ∙ ap word skipped ∙ sym (first-word t))
-        ∙ number-capped (first t);
-  }
+-- what is read from a byte of a text on
+module _ {text : List ℕ} {from : ℕ} {g : Gap} (gap : GapSeen text from g) where
+  abbrev t : List ℕ
+  t = drop from text
 
-  -- a number after an optional minus
-  pub whole-seen : (from end size : ℕ) (e minus : Bool) → drop from text ≡ without 45 (drop start text) → end ≡ from + length (digitsOf (drop from text))
-      → size ≡ cappedFrom 0 (digitsOf (drop from text)) → e ≡ isEnd (drop end text) → minus ≡ startsWith 45 (drop start text)
-      → WholeSeen t (record { fine = ltb from end && e; minus = minus; size = size; next = end }) (drop end text)
-  whole-seen from end size e minus signless long is ends signed =
-      let digits : drop from text ≡ unsigned (unspaced t) = signless ∙ ap unsigned skipped in
-      let words : word (drop from text) ≡ unsigned (word (unspaced t)) = ap word digits ∙ sym (sign (unspaced t) .digits) in
+  -- a number
+  pub number-seen : {r : Digits} {fine : Bool} → DigitsSeen text (g .end) 0 r → fine ≡ closed (g .end) r → NumberSeen t fine (r .value) (drop (r .end) text)
+  number-seen {r} run is =
+      let ends = ap (λ (b : ℕ). eqb b 32 || eqb b 10) (run .stop) ∙ ends-front (drop (r .end) text) in
       record {
         seen =
-            seen-word t isWhole no-whole (run-fine text from end long ends ∙ ap isNumber words)
-            (λ f. run-rest text from end long ends f ∙ ap beyond digits ∙ sym (sign (unspaced t) .rest));
-        minus = λ f. signed ∙ ap isMinus skipped ∙ sym (minus-word (unspaced t)) ∙ ap isMinus (sym (first-word t));
-        size = λ f.
-            is
-            ∙ ap (cappedFrom 0) (run-all text from end long ends f ∙ words ∙ ap unsigned (sym (first-word t)))
+            seen-word t isNumber no-number (is ∙ run-fine text (g .end) (r .end) (run .end) ends ∙ ap (λ (u : List ℕ). isNumber (word u)) (gap .left))
+            (λ f. run-rest text (g .end) (r .end) (run .end) ends (sym is ∙ f) ∙ ap beyond (gap .left));
+        value-is = λ f.
+            run .value
+            ∙ ap (cappedFrom 0) (run-all text (g .end) (r .end) (run .end) ends (sym is ∙ f) ∙ ap word (gap .left) ∙ sym (first-word t))
+            ∙ number-capped (first t);
+      }
+
+  -- a number after an optional minus
+  pub minus-is : eqb (g .stop) 45 ≡ isMinus (first t)
+  minus-is =
+      ap (λ (b : ℕ). eqb b 45) (gap .stop)
+      ∙ starts-front 45 refl (drop (g .end) text)
+      ∙ ap isMinus (gap .left)
+      ∙ sym (minus-word (unspaced t))
+      ∙ ap isMinus (sym (first-word t))
+
+  pub whole-seen : {start : ℕ} {r : Digits} {fine : Bool} → start ≡ cond (eqb (g .stop) 45) (g .end + 1) (g .end) → DigitsSeen text start 0 r → fine ≡ closed start r
+      → WholeSeen t fine (eqb (g .stop) 45) (r .value) (drop (r .end) text)
+  whole-seen {start} {r} past run is =
+      let ends = ap (λ (b : ℕ). eqb b 32 || eqb b 10) (run .stop) ∙ ends-front (drop (r .end) text) in
+      let digits : drop start text ≡ unsigned (unspaced t) = past-left 45 refl text (g .end) (gap .stop) past ∙ ap unsigned (gap .left) in
+      let words : word (drop start text) ≡ unsigned (word (unspaced t)) = ap word digits ∙ sym (sign (unspaced t) .digits) in
+      record {
+        seen =
+            seen-word t isWhole no-whole (is ∙ run-fine text start (r .end) (run .end) ends ∙ ap isNumber words)
+            (λ f. run-rest text start (r .end) (run .end) ends (sym is ∙ f) ∙ ap beyond digits ∙ sym (sign (unspaced t) .rest));
+        minus-is = λ f. minus-is;
+        size-is = λ f.
+            run .value
+            ∙ ap (cappedFrom 0) (run-all text start (r .end) (run .end) ends (sym is ∙ f) ∙ words ∙ ap unsigned (sym (first-word t)))
             ∙ number-capped (unsigned (first t));
       }
 

@@ -1,20 +1,24 @@
 -- A line that is read field by field has exactly the fields that it is to have.
-use Prim.Native.Nat.{ℕ, suc, _<_}
+use Prim.Native.Nat.{ℕ, suc, _+_, _^_, _≤_, _<_}
 use mathlib.Core.Path.{_≡_, refl, sym, ap, _∙_}
 use mathlib.Core.Bool.{Bool, true, false, _&&_, _||_}
 use mathlib.Core.List.{List, [], _∷_}
 use native.Mathlib.Omega.{arith}
 use borrow.Author.Tests.{eqb-true, eqb-false, eq-eqb, ne-eqb}
 use lib.Dec.{eqb}
-use lib.ListN.{getD}
+use lib.ListN.{length, getD, drop, drop-of-length-le}
+use lib.Seq.{drop-drop}
 use Rattle.rows.proofs.ScanLaws.{both-left, both-right}
-use Rattle.grids.specs.Text.{fieldsOf, exactly}
-use Rattle.grids.specs.Numbers.{numberOf, startsWith, without, isMinus, unsigned, afterFirst, isShort}
+use Rattle.grids.specs.Text.{piecesOf, filled, fieldsOf, exactly}
+use Rattle.grids.specs.Numbers.{numberOf, startsWith, isMinus, unsigned, isDepth, beforeFirst, afterFirst, isShort}
 use Rattle.grids.specs.Grid.{isThree}
-use Rattle.grids.specs.Private.{unspaced, isEnd, isLineEnd, most, capped, present, first, its, Seen, NumberSeen, WholeSeen, sizeOf, DepthSeen, LineSeen, CountsSeen, NodeSeen, TriangleSeen}
-use Rattle.grids.specs.declared.fields.Number.{Number}
-use Rattle.grids.specs.declared.fields.Whole.{Whole}
+use Rattle.grids.specs.Private.{unspaced, isEnd, isLineEnd, most, capped, GapSeen, present, first, its, countTests, nodeTests, triangleTests, Seen, NumberSeen, WholeSeen, sizeOf, DepthSeen, LineSeen, CountsSeen, NodeSeen, TriangleSeen}
+use Rattle.grids.specs.declared.scanning.Gap.{Gap}
+use Rattle.grids.specs.declared.entries.Counts.{Counts}
+use Rattle.grids.specs.declared.entries.NodeLine.{NodeLine}
+use Rattle.grids.specs.declared.entries.TriangleLine.{TriangleLine}
 use Rattle.grids.specs.declared.fields.Depth.{Depth}
+use Rattle.grids.proofs.LeftLaws.{line-front}
 use Rattle.grids.proofs.WordLaws.{never, spaces-fields, spaces-line, spaces-gone, word-more, word-none}
 
 -- ---- the line's end
@@ -22,11 +26,6 @@ end-is : (u : List ℕ) → startsWith 32 u ≡ false → isEnd u ≡ isLineEnd 
 unfolding startsWith isEnd isLineEnd
 end-is [] s = refl
 end-is (b ∷ t) s = rw s
-
-end-past : (u : List ℕ) → isLineEnd u ≡ true → without 10 u ≡ afterFirst 10 u
-unfolding isLineEnd without afterFirst
-end-past [] e = refl
-end-past (b ∷ t) e = rw e
 
 no-more : (t : List ℕ) → isLineEnd (unspaced t) ≡ exactly [] (fieldsOf (present t))
 unfolding exactly
@@ -39,12 +38,24 @@ no-more t = go (isLineEnd (unspaced t)) refl ∙ ap (exactly []) (sym (spaces-fi
     go true e = e ∙ ap (exactly []) (sym (word-none (unspaced t) (spaces-gone t) (is ∙ e) .0))
     go false e = e ∙ ap (exactly []) (sym (word-more (unspaced t) (is ∙ e)))
 
-module _ (t : List ℕ) {left next : List ℕ} {e : Bool} where
-  pub line-end : left ≡ unspaced t → e ≡ isLineEnd left → next ≡ without 10 left → LineSeen [] t e next
-  line-end skipped ends past = record {
-    holds = ends ∙ ap isLineEnd skipped ∙ no-more t;
-    after = λ f. past ∙ end-past left (sym ends ∙ f) ∙ ap (afterFirst 10) skipped ∙ sym (spaces-line t);
-  }
+-- the line ends after its spaces: the next one starts after the byte there, and at the text's end nothing is left anyway
+feed-past : (u : List ℕ) → isLineEnd u ≡ true → drop 1 u ≡ afterFirst 10 u
+unfolding isLineEnd afterFirst
+feed-past [] e = refl
+feed-past (b ∷ t) e = rw e
+
+module _ {text : List ℕ} {from : ℕ} {g : Gap} (gap : GapSeen text from g) where
+  pub line-end : LineSeen [] (drop from text) (eqb (g .stop) 10) (drop (g .end + 1) text)
+  line-end =
+      let ends : eqb (g .stop) 10 ≡ isLineEnd (drop (g .end) text) = ap (λ (b : ℕ). eqb b 10) (gap .stop) ∙ line-front (drop (g .end) text) in
+      record {
+        holds = ends ∙ ap isLineEnd (gap .left) ∙ no-more (drop from text);
+        after = λ f.
+            sym (drop-drop 1 (g .end) text)
+            ∙ feed-past (drop (g .end) text) (sym ends ∙ f)
+            ∙ ap (afterFirst 10) (gap .left)
+            ∙ sym (spaces-line (drop from text));
+      }
 
 -- ---- one field more
 exactly-not : (is : List ℕ → Bool) (tests : List (List ℕ → Bool)) (fs : List (List ℕ)) → is (getD fs 0 []) ≡ false → exactly (is ∷ tests) fs ≡ false
@@ -58,6 +69,27 @@ unfolding exactly
 exactly-yes is tests f fs e = rw e
 
 module _ {is : List ℕ → Bool} {t : List ℕ} {fine : Bool} {rest : List ℕ} (s : Seen is t fine rest) where
+  -- the other fields tell, where this one is what it is to be
+  pub later : fine ≡ true → (tests : List (List ℕ → Bool)) {b : Bool} → b ≡ exactly tests (fieldsOf (present rest)) → b ≡ exactly (is ∷ tests) (fieldsOf (present t))
+  later e tests o =
+      o
+      ∙ exactly-yes is tests (first t) (fieldsOf (present rest)) (sym (s .holds) ∙ e)
+      ∙ ap (exactly (is ∷ tests)) (sym (s .fields e))
+
+  pub not-here : fine ≡ false → (tests : List (List ℕ → Bool)) → false ≡ exactly (is ∷ tests) (fieldsOf (present t))
+  not-here e tests = sym (exactly-not is tests (fieldsOf (present t)) (sym (s .holds) ∙ e))
+
+  pub not-more : {others : Bool} → (fine && others) ≡ false → (tests : List (List ℕ → Bool)) → (others ≡ false → false ≡ exactly tests (fieldsOf (present rest)))
+      → false ≡ exactly (is ∷ tests) (fieldsOf (present t))
+  not-more {others} off tests h = go fine refl
+    where
+      go : (c : Bool) → fine ≡ c → false ≡ exactly (is ∷ tests) (fieldsOf (present t))
+      go true e = later e tests (h (rw e at off))
+      go false e = not-here e tests
+
+  pub line-on : fine ≡ true → {tests : List (List ℕ → Bool)} {others : Bool} {next : List ℕ} → LineSeen tests rest others next → LineSeen (is ∷ tests) t others next
+  line-on e {tests} l = record { holds = later e tests (l .holds); after = λ f. l .after f ∙ s .line e }
+
   pub line-more : {tests : List (List ℕ → Bool)} {others : Bool} {next : List ℕ} → LineSeen tests rest others next → LineSeen (is ∷ tests) t (fine && others) next
   line-more {tests} {others} {next} l = record {
     holds = go fine refl;
@@ -65,16 +97,23 @@ module _ {is : List ℕ → Bool} {t : List ℕ} {fine : Bool} {rest : List ℕ}
   }
     where
       go : (c : Bool) → fine ≡ c → (fine && others) ≡ exactly (is ∷ tests) (fieldsOf (present t))
-      go true e =
-          ap (λ (b : Bool). b && others) e
-          ∙ l .holds
-          ∙ exactly-yes is tests (first t) (fieldsOf (present rest)) (sym (s .holds) ∙ e)
-          ∙ ap (exactly (is ∷ tests)) (sym (s .fields e))
-      go false e = ap (λ (b : Bool). b && others) e ∙ sym (exactly-not is tests (fieldsOf (present t)) (sym (s .holds) ∙ e))
+      go true e = ap (λ (b : Bool). b && others) e ∙ later e tests (l .holds)
+      go false e = ap (λ (b : Bool). b && others) e ∙ not-here e tests
 
   -- the fields that follow are those of what is left
   pub its-more : fine ≡ true → (k : ℕ) → its t (suc k) ≡ its rest k
   its-more f k = ap (λ (fs : List (List ℕ)). getD fs (suc k) []) (s .fields f)
+
+-- at the text's end there is no field
+pub not-there : (text : List ℕ) (from : ℕ) → length text ≤ from → (is : List ℕ → Bool) (tests : List (List ℕ → Bool))
+    → false ≡ exactly (is ∷ tests) (fieldsOf (present (drop from text)))
+unfolding exactly beforeFirst piecesOf filled
+not-there text from l is tests = rw (drop-of-length-le text l)
+
+-- a line that was left early
+module _ {tests : List (List ℕ → Bool)} {t : List ℕ} {fine : Bool} (off : fine ≡ false) (out : false ≡ exactly tests (fieldsOf (present t))) (next : List ℕ) where
+  line-left : LineSeen tests t fine next
+  line-left = record { holds = off ∙ out; after = λ f. absurd (never (sym f ∙ off)) }
 
 -- ---- numbers up to the limit compare as they are
 pub capped-is : (v k : ℕ) → k < most → eqb (capped v) k ≡ eqb v k
@@ -84,125 +123,116 @@ capped-is v k l = go (eqb v k) refl
     go true e = eq-eqb (capped v) k (omega (arith, eqb-true v k e)) ∙ sym e
     go false e = ne-eqb (capped v) k (λ p. eqb-false v k e (omega (arith, p))) ∙ sym e
 
-pub three-seen : (t : List ℕ) (r : Number) (rest : List ℕ) → NumberSeen t r rest → Seen isThree t (r .fine && eqb (r .value) 3) rest
-three-seen t r rest n = record {
-  holds = go (r .fine) refl;
-  fields = λ f. n .seen .fields (both-left (r .fine) (eqb (r .value) 3) f);
-  line = λ f. n .seen .line (both-left (r .fine) (eqb (r .value) 3) f);
+pub three-seen : {t : List ℕ} {fine : Bool} {value : ℕ} {rest : List ℕ} → NumberSeen t fine value rest → Seen isThree t (fine && eqb value 3) rest
+three-seen {t} {fine} {value} {rest} n = record {
+  holds = go fine refl;
+  fields = λ f. n .seen .fields (both-left fine (eqb value 3) f);
+  line = λ f. n .seen .line (both-left fine (eqb value 3) f);
 }
   where
-    go : (c : Bool) → r .fine ≡ c → (r .fine && eqb (r .value) 3) ≡ isThree (first t)
+    go : (c : Bool) → fine ≡ c → (fine && eqb value 3) ≡ isThree (first t)
     go true e =
-        rw (← n .seen .holds) (ap (λ (b : Bool). r .fine && b) (ap (λ (v : ℕ). eqb v 3) (n .value e) ∙ capped-is (numberOf (first t)) 3 (omega arith)))
+        rw (← n .seen .holds) (ap (λ (b : Bool). fine && b) (ap (λ (v : ℕ). eqb v 3) (n .value-is e) ∙ capped-is (numberOf (first t)) 3 (omega arith)))
     go false e = rw (← n .seen .holds, e)
 
 -- ---- the three kinds of line, each from its fields and its end
 abbrev numbered : List ℕ → ℕ
 numbered f = capped (numberOf f)
 
-module _ {t l m : List ℕ} {e n : Number} (first : NumberSeen t e l) (second : NumberSeen l n m) {ends : Bool} {next : List ℕ} (end : LineSeen [] m ends next) where
-  pub counts-line : (at : ℕ) → CountsSeen t (record { fine = e .fine && (n .fine && ends); e = e .value; n = n .value; next = at }) next
+module _ {t l m : List ℕ} {e n : ℕ} {e-fine n-fine : Bool} (first : NumberSeen t e-fine e l) (second : NumberSeen l n-fine n m) {ends : Bool} {next : List ℕ}
+    (end : LineSeen [] m ends next) where
+  pub counts-line : (at : ℕ) → CountsSeen t (record { fine = e-fine && (n-fine && ends); e = e; n = n; next = at }) next
   counts-line at = record {
     seen = line-more (first .seen) (line-more (second .seen) end);
-    e = λ f. first .value (both-left (e .fine) (n .fine && ends) f);
+    e = λ f. first .value-is (both-left e-fine (n-fine && ends) f);
     n = λ f.
-        second .value (both-left (n .fine) ends (both-right (e .fine) (n .fine && ends) f))
-        ∙ ap numbered (sym (its-more (first .seen) (both-left (e .fine) (n .fine && ends) f) 0));
+        second .value-is (both-left n-fine ends (both-right e-fine (n-fine && ends) f))
+        ∙ ap numbered (sym (its-more (first .seen) (both-left e-fine (n-fine && ends) f) 0));
   }
 
-module _ {t r₁ r₂ r₃ r₄ : List ℕ} {n : Number} {x y : Whole} {h : Depth} (n-seen : NumberSeen t n r₁) (x-seen : WholeSeen r₁ x r₂) (y-seen : WholeSeen r₂ y r₃)
+pub counts-none : {t : List ℕ} (r : Counts) (next : List ℕ) → r .fine ≡ false → false ≡ exactly countTests (fieldsOf (present t)) → CountsSeen t r next
+counts-none r next off out = record { seen = line-left off out next; e = λ f. absurd (never (sym f ∙ off)); n = λ f. absurd (never (sym f ∙ off)) }
+
+module _ {t r₁ r₂ r₃ r₄ : List ℕ} {n x y : ℕ} {n-fine x-fine x-minus y-fine y-minus : Bool} {h : Depth} (n-seen : NumberSeen t n-fine n r₁) (n-is : n-fine ≡ true)
+    (x-seen : WholeSeen r₁ x-fine x-minus x r₂) (x-is : x-fine ≡ true) (y-seen : WholeSeen r₂ y-fine y-minus y r₃) (y-is : y-fine ≡ true)
     (h-seen : DepthSeen r₃ h r₄) {ends : Bool} {next : List ℕ} (end : LineSeen [] r₄ ends next) where
-  abbrev nodeFine : Bool
-  nodeFine = n .fine && (x .fine && (y .fine && (h .fine && ends)))
+  node-second : first r₁ ≡ its t 1
+  node-second = sym (its-more (n-seen .seen) n-is 0)
 
-  record NodeParts : Type 0 where
-    n-fine : n .fine ≡ true
-    x-fine : x .fine ≡ true
-    y-fine : y .fine ≡ true
-    h-fine : h .fine ≡ true
+  node-third : first r₂ ≡ its t 2
+  node-third = sym (its-more (n-seen .seen) n-is 1 ∙ its-more (x-seen .seen) x-is 0)
 
-  node-parts : nodeFine ≡ true → NodeParts
-  node-parts f =
-      let g = both-right (n .fine) (x .fine && (y .fine && (h .fine && ends))) f in
-      let k = both-right (x .fine) (y .fine && (h .fine && ends)) g in
-      let m = both-right (y .fine) (h .fine && ends) k in
-      record {
-        n-fine = both-left (n .fine) (x .fine && (y .fine && (h .fine && ends))) f;
-        x-fine = both-left (x .fine) (y .fine && (h .fine && ends)) g;
-        y-fine = both-left (y .fine) (h .fine && ends) k;
-        h-fine = both-left (h .fine) ends m;
-      }
+  node-fourth : first r₃ ≡ its t 3
+  node-fourth = sym (its-more (n-seen .seen) n-is 2 ∙ its-more (x-seen .seen) x-is 1 ∙ its-more (y-seen .seen) y-is 0)
 
-  node-second : NodeParts → first r₁ ≡ its t 1
-  node-second p = sym (its-more (n-seen .seen) (p .n-fine) 0)
-
-  node-third : NodeParts → first r₂ ≡ its t 2
-  node-third p = sym (its-more (n-seen .seen) (p .n-fine) 1 ∙ its-more (x-seen .seen) (p .x-fine) 0)
-
-  node-fourth : NodeParts → first r₃ ≡ its t 3
-  node-fourth p = sym (its-more (n-seen .seen) (p .n-fine) 2 ∙ its-more (x-seen .seen) (p .x-fine) 1 ∙ its-more (y-seen .seen) (p .y-fine) 0)
-
-  pub node-line : (at : ℕ) → NodeSeen t (record { fine = nodeFine; number = n .value; x = x; y = y; h = h; next = at }) next
+  pub node-line : (at : ℕ)
+      → NodeSeen t (record { fine = h .fine && ends; number = n; x = record { minus = x-minus; size = x }; y = record { minus = y-minus; size = y }; h = h; next = at }) next
   node-line at = record {
-    seen = line-more (n-seen .seen) (line-more (x-seen .seen) (line-more (y-seen .seen) (line-more (h-seen .seen) end)));
-    number = λ f. n-seen .value (node-parts f .n-fine);
-    x-minus = λ f. let p = node-parts f in x-seen .minus (p .x-fine) ∙ ap isMinus (node-second p);
-    x-size = λ f. let p = node-parts f in x-seen .size (p .x-fine) ∙ ap (λ (g : List ℕ). numbered (unsigned g)) (node-second p);
-    y-minus = λ f. let p = node-parts f in y-seen .minus (p .y-fine) ∙ ap isMinus (node-third p);
-    y-size = λ f. let p = node-parts f in y-seen .size (p .y-fine) ∙ ap (λ (g : List ℕ). numbered (unsigned g)) (node-third p);
-    h-minus = λ f. let p = node-parts f in h-seen .minus (p .h-fine) ∙ ap isMinus (node-fourth p);
-    h-short = λ f. let p = node-parts f in h-seen .short (p .h-fine) ∙ ap isShort (node-fourth p);
-    h-size = λ f s. let p = node-parts f in h-seen .size (p .h-fine) s ∙ ap sizeOf (node-fourth p);
+    seen = line-on (n-seen .seen) n-is (line-on (x-seen .seen) x-is (line-on (y-seen .seen) y-is (line-more (h-seen .seen) end)));
+    number = λ f. n-seen .value-is n-is;
+    x-minus = λ f. x-seen .minus-is x-is ∙ ap isMinus node-second;
+    x-size = λ f. x-seen .size-is x-is ∙ ap (λ (g : List ℕ). numbered (unsigned g)) node-second;
+    y-minus = λ f. y-seen .minus-is y-is ∙ ap isMinus node-third;
+    y-size = λ f. y-seen .size-is y-is ∙ ap (λ (g : List ℕ). numbered (unsigned g)) node-third;
+    h-minus = λ f. h-seen .minus (both-left (h .fine) ends f) ∙ ap isMinus node-fourth;
+    h-short = λ f. h-seen .short (both-left (h .fine) ends f) ∙ ap isShort node-fourth;
+    h-size = λ f s. h-seen .size (both-left (h .fine) ends f) s ∙ ap sizeOf node-fourth;
     h-small = h-seen .small;
   }
 
-module _ {t r₁ r₂ r₃ r₄ r₅ : List ℕ} {n k p q r : Number} (n-seen : NumberSeen t n r₁) (k-seen : NumberSeen r₁ k r₂) (p-seen : NumberSeen r₂ p r₃)
-    (q-seen : NumberSeen r₃ q r₄) (r-seen : NumberSeen r₄ r r₅) {ends : Bool} {next : List ℕ} (end : LineSeen [] r₅ ends next) where
-  abbrev kind : Bool
-  kind = k .fine && eqb (k .value) 3
+pub node-none : {t : List ℕ} (r : NodeLine) (next : List ℕ) → (r .fine ≡ false) × (r .h .size ≤ 2 ^ 53) → false ≡ exactly nodeTests (fieldsOf (present t)) → NodeSeen t r next
+node-none r next off out =
+    let never-fine : r .fine ≡ true → ⊥ = λ f. never (sym f ∙ off .0) in
+    record {
+      seen = line-left (off .0) out next;
+      number = λ f. absurd (never-fine f);
+      x-minus = λ f. absurd (never-fine f);
+      x-size = λ f. absurd (never-fine f);
+      y-minus = λ f. absurd (never-fine f);
+      y-size = λ f. absurd (never-fine f);
+      h-minus = λ f. absurd (never-fine f);
+      h-short = λ f. absurd (never-fine f);
+      h-size = λ f. absurd (never-fine f);
+      h-small = off .1;
+    }
 
-  abbrev triangleFine : Bool
-  triangleFine = n .fine && (kind && (p .fine && (q .fine && (r .fine && ends))))
+module _ {t r₁ r₂ r₃ r₄ r₅ : List ℕ} {n k p q r : ℕ} {n-fine k-fine p-fine q-fine r-fine : Bool} (n-seen : NumberSeen t n-fine n r₁) (n-is : n-fine ≡ true)
+    (k-seen : NumberSeen r₁ k-fine k r₂) (k-is : (k-fine && eqb k 3) ≡ true) (p-seen : NumberSeen r₂ p-fine p r₃) (q-seen : NumberSeen r₃ q-fine q r₄)
+    (r-seen : NumberSeen r₄ r-fine r r₅) {ends : Bool} {next : List ℕ} (end : LineSeen [] r₅ ends next) where
+  abbrev cornersFine : Bool
+  cornersFine = p-fine && (q-fine && (r-fine && ends))
 
-  record TriangleParts : Type 0 where
-    n-fine : n .fine ≡ true
-    k-fine : kind ≡ true
-    p-fine : p .fine ≡ true
-    q-fine : q .fine ≡ true
-    r-fine : r .fine ≡ true
+  p-is : cornersFine ≡ true → p-fine ≡ true
+  p-is f = both-left p-fine (q-fine && (r-fine && ends)) f
 
-  triangle-parts : triangleFine ≡ true → TriangleParts
-  triangle-parts f =
-      let g = both-right (n .fine) (kind && (p .fine && (q .fine && (r .fine && ends)))) f in
-      let h = both-right kind (p .fine && (q .fine && (r .fine && ends))) g in
-      let i = both-right (p .fine) (q .fine && (r .fine && ends)) h in
-      let j = both-right (q .fine) (r .fine && ends) i in
-      record {
-        n-fine = both-left (n .fine) (kind && (p .fine && (q .fine && (r .fine && ends)))) f;
-        k-fine = both-left kind (p .fine && (q .fine && (r .fine && ends))) g;
-        p-fine = both-left (p .fine) (q .fine && (r .fine && ends)) h;
-        q-fine = both-left (q .fine) (r .fine && ends) i;
-        r-fine = both-left (r .fine) ends j;
-      }
+  q-is : cornersFine ≡ true → q-fine ≡ true
+  q-is f = both-left q-fine (r-fine && ends) (both-right p-fine (q-fine && (r-fine && ends)) f)
 
-  its-kind : Seen isThree r₁ kind r₂
-  its-kind = three-seen r₁ k r₂ k-seen
+  r-is : cornersFine ≡ true → r-fine ≡ true
+  r-is f = both-left r-fine ends (both-right q-fine (r-fine && ends) (both-right p-fine (q-fine && (r-fine && ends)) f))
 
   -- the field j places after the third
-  triangle-its : TriangleParts → (j : ℕ) → its r₂ j ≡ its t (suc (suc j))
-  triangle-its f j = sym (its-more (n-seen .seen) (f .n-fine) (suc j) ∙ its-more its-kind (f .k-fine) j)
+  triangle-its : (j : ℕ) → its r₂ j ≡ its t (suc (suc j))
+  triangle-its j = sym (its-more (n-seen .seen) n-is (suc j) ∙ its-more (three-seen k-seen) k-is j)
 
-  pub triangle-line : (at : ℕ)
-      → TriangleSeen t (record { fine = triangleFine; number = n .value; first = p .value; second = q .value; third = r .value; next = at }) next
+  pub triangle-line : (at : ℕ) → TriangleSeen t (record { fine = cornersFine; first = p; number = n; second = q; next = at; third = r }) next
   triangle-line at = record {
-    seen = line-more (n-seen .seen) (line-more its-kind (line-more (p-seen .seen) (line-more (q-seen .seen) (line-more (r-seen .seen) end))));
-    number = λ f. n-seen .value (triangle-parts f .n-fine);
-    first = λ f. let u = triangle-parts f in p-seen .value (u .p-fine) ∙ ap numbered (triangle-its u 0);
-    second = λ f.
-        let u = triangle-parts f in
-        q-seen .value (u .q-fine) ∙ ap numbered (sym (its-more (p-seen .seen) (u .p-fine) 0) ∙ triangle-its u 1);
+    seen = line-on (n-seen .seen) n-is (line-on (three-seen k-seen) k-is (line-more (p-seen .seen) (line-more (q-seen .seen) (line-more (r-seen .seen) end))));
+    number = λ f. n-seen .value-is n-is;
+    first = λ f. p-seen .value-is (p-is f) ∙ ap numbered (triangle-its 0);
+    second = λ f. q-seen .value-is (q-is f) ∙ ap numbered (sym (its-more (p-seen .seen) (p-is f) 0) ∙ triangle-its 1);
     third = λ f.
-        let u = triangle-parts f in
-        r-seen .value (u .r-fine)
-        ∙ ap numbered (sym (its-more (p-seen .seen) (u .p-fine) 1 ∙ its-more (q-seen .seen) (u .q-fine) 0) ∙ triangle-its u 2);
+        r-seen .value-is (r-is f)
+        ∙ ap numbered (sym (its-more (p-seen .seen) (p-is f) 1 ∙ its-more (q-seen .seen) (q-is f) 0) ∙ triangle-its 2);
   }
+
+pub triangle-none : {t : List ℕ} (r : TriangleLine) (next : List ℕ) → r .fine ≡ false → false ≡ exactly triangleTests (fieldsOf (present t)) → TriangleSeen t r next
+triangle-none r next off out =
+    let never-fine : r .fine ≡ true → ⊥ = λ f. never (sym f ∙ off) in
+    record {
+      seen = line-left off out next;
+      number = λ f. absurd (never-fine f);
+      first = λ f. absurd (never-fine f);
+      second = λ f. absurd (never-fine f);
+      third = λ f. absurd (never-fine f);
+    }

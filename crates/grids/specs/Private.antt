@@ -3,8 +3,8 @@ use Prim.Native.Nat.{ℕ, zero, suc, _+_, _-_, _*_, _/_, _%_, _^_, _≤_, min}
 use mathlib.Core.Path.{_≡_}
 use mathlib.Core.Bool.{Bool, true, false, cond, _&&_, _||_}
 use mathlib.Core.List.{List, [], _∷_}
-use lib.Dec.{eqb, leb}
-use lib.ListN.{length}
+use lib.Dec.{eqb, leb, ltb}
+use lib.ListN.{length, drop}
 use lib.IntN.{ℤ}
 use lib.Ieee.{Float}
 use Rattle.lists.specs.Table.{table}
@@ -13,8 +13,8 @@ use Rattle.rows.specs.Scan.{row, _then_, scan}
 use Rattle.grids.specs.Text.{lineOf, fieldsOf, fieldOf, exactly}
 use Rattle.grids.specs.Numbers.{isDigit, isNumber, numberOf, isMinus, unsigned, isWhole, wholeOf, beforeFirst, afterFirst, wholeDigits, decimals, isDepth, isShort, depthOf}
 use Rattle.grids.specs.Grid.{titleRow, countE, countN, nodeLineRows, isThree, triangleLineRows, nodeLine, triangleLine}
-use Rattle.grids.specs.declared.fields.Number.{Number}
-use Rattle.grids.specs.declared.fields.Whole.{Whole}
+use Rattle.grids.specs.declared.scanning.Gap.{Gap}
+use Rattle.grids.specs.declared.scanning.Digits.{Digits}
 use Rattle.grids.specs.declared.fields.Depth.{Depth}
 use Rattle.grids.specs.declared.entries.Counts.{Counts}
 use Rattle.grids.specs.declared.entries.NodeLine.{NodeLine}
@@ -49,6 +49,27 @@ cappedFrom v (b ∷ t) = cappedFrom (min (10 * v + (b - 48)) most) t
 abbrev pub capped : ℕ → ℕ
 capped v = min v most
 
+-- ---- the byte that stands first: where nothing is left, a line ends as at a line feed
+unfoldable pub front : List ℕ → ℕ
+front [] = 10
+front (b ∷ t) = b
+
+-- ---- spaces and digits were read from a byte of a text on; the digits go on from the value v
+pub record GapSeen (text : List ℕ) (from : ℕ) (r : Gap) : Type 0 where
+  pub left : drop (r .end) text ≡ unspaced (drop from text)
+  pub stop : r .stop ≡ front (drop (r .end) text)
+  pub within : r .end ≤ length text
+
+pub record DigitsSeen (text : List ℕ) (from v : ℕ) (r : Digits) : Type 0 where
+  pub value : r .value ≡ cappedFrom v (digitsOf (drop from text))
+  pub end : r .end ≡ from + length (digitsOf (drop from text))
+  pub stop : r .stop ≡ front (drop (r .end) text)
+  pub within : r .end ≤ length text
+
+-- the digits from `first` on end as a field does, and there are some
+abbrev pub closed : ℕ → Digits → Bool
+closed first r = ltb first (r .end) && (eqb (r .stop) 32 || eqb (r .stop) 10)
+
 -- ---- lines: what is left of the present line, and what stands after k lines
 abbrev pub present : List ℕ → List ℕ
 present t = beforeFirst 10 t
@@ -66,14 +87,14 @@ pub record Seen (is : List ℕ → Bool) (t : List ℕ) (fine : Bool) (rest : Li
   pub fields : fine ≡ true → fieldsOf (present t) ≡ first t ∷ fieldsOf (present rest)
   pub line : fine ≡ true → afterFirst 10 rest ≡ afterFirst 10 t
 
-pub record NumberSeen (t : List ℕ) (r : Number) (rest : List ℕ) : Type 0 where
-  pub seen : Seen isNumber t (r .fine) rest
-  pub value : r .fine ≡ true → r .value ≡ capped (numberOf (first t))
+pub record NumberSeen (t : List ℕ) (fine : Bool) (value : ℕ) (rest : List ℕ) : Type 0 where
+  pub seen : Seen isNumber t fine rest
+  pub value-is : fine ≡ true → value ≡ capped (numberOf (first t))
 
-pub record WholeSeen (t : List ℕ) (r : Whole) (rest : List ℕ) : Type 0 where
-  pub seen : Seen isWhole t (r .fine) rest
-  pub minus : r .fine ≡ true → r .minus ≡ isMinus (first t)
-  pub size : r .fine ≡ true → r .size ≡ capped (numberOf (unsigned (first t)))
+pub record WholeSeen (t : List ℕ) (fine minus : Bool) (size : ℕ) (rest : List ℕ) : Type 0 where
+  pub seen : Seen isWhole t fine rest
+  pub minus-is : fine ≡ true → minus ≡ isMinus (first t)
+  pub size-is : fine ≡ true → size ≡ capped (numberOf (unsigned (first t)))
 
 -- the size of a depth, in thousandths
 unfoldable pub sizeOf : List ℕ → ℕ

@@ -1,23 +1,17 @@
-// One field of a line: spaces are passed over, and the field is read as what it is to be. Where it is that, it is `fine`.
+// What a field of a line is, once its spaces and its digits have been read.
 use crate::scanning;
+use crate::scanning::Digits;
 ghost use mathlib.Core.Path.{_≡_};
+ghost use mathlib.Core.Bool.{cond};
 ghost use Prim.Native.Nat.{_+_, _-_, _*_, _^_, _≤_, _<_};
-ghost use lib.ListN.{drop};
-ghost use Rattle.grids.specs.Private.{NumberSeen, WholeSeen, DepthSeen};
-
-// A number, and the byte after it.
-pub(crate) struct Number {
-    pub(crate) fine: bool,
-    pub(crate) value: u64,
-    pub(crate) next: usize,
-}
+ghost use lib.Dec.{eqb};
+ghost use lib.ListN.{length, drop};
+ghost use Rattle.grids.specs.Private.{DepthSeen, closed};
 
 // A number after an optional minus.
 pub(crate) struct Whole {
-    pub(crate) fine: bool,
     pub(crate) minus: bool,
     pub(crate) size: u64,
-    pub(crate) next: usize,
 }
 
 // A depth. It is `short` where it has at most nine whole digits and three decimals, and its size is then in thousandths.
@@ -29,30 +23,19 @@ pub(crate) struct Depth {
     pub(crate) next: usize,
 }
 
-pub(crate) fn number_at(text: &[u8], from: usize) -> Number
-    ensures { λ r. ⌜ NumberSeen (drop from (now (text .entry))) r (drop (r .next) (now (text .entry))) ⌝ }
+// Past the byte at `at`, where it is this mark.
+pub(crate) fn past(at: usize, byte: u8, mark: u8) -> usize
+    requires { ⌜ at < 2 ^ 63 ⌝ }
+    ensures { λ r. ⌜ r ≡ cond (eqb byte mark) (at + 1) at ⌝ }
 {
-    let start = scanning::skip(text, from);
-    let run = scanning::digits_at(text, start);
-    Number {
-        fine: (start < run.end) & scanning::is_end(text, run.end),
-        value: run.value,
-        next: run.end,
-    }
+    if byte == mark { at + 1 } else { at }
 }
 
-pub(crate) fn whole_at(text: &[u8], from: usize) -> Whole
-    ensures { λ r. ⌜ WholeSeen (drop from (now (text .entry))) r (drop (r .next) (now (text .entry))) ⌝ }
+// Whether the digits from `first` on are a field, or what a minus leaves of one.
+pub(crate) fn is_number(first: usize, run: Digits) -> bool
+    ensures { λ r. ⌜ r ≡ closed first run ⌝ }
 {
-    let start = scanning::skip(text, from);
-    let first = scanning::past(text, start, 45);
-    let run = scanning::digits_at(text, first);
-    Whole {
-        fine: (first < run.end) & scanning::is_end(text, run.end),
-        minus: scanning::is_at(text, start, 45),
-        size: run.value,
-        next: run.end,
-    }
+    (first < run.end) & scanning::is_end(run.stop)
 }
 
 // What one of the last of so many decimals counts, in thousandths.
@@ -77,13 +60,14 @@ fn thousandths(whole: u64, decimals: u64, places: usize) -> u64
 }
 
 pub(crate) fn depth_at(text: &[u8], from: usize) -> Depth
+    requires { ⌜ from ≤ length (now text) ⌝ }
     ensures { λ r. ⌜ DepthSeen (drop from (now (text .entry))) r (drop (r .next) (now (text .entry))) ⌝ }
+    ensures { λ r. ⌜ r .next ≤ length (now (text .entry)) ⌝ }
 {
-    let start = scanning::skip(text, from);
-    let first = scanning::past(text, start, 45);
+    let gap = scanning::skip(text, from);
+    let first = past(gap.end, gap.stop, 45);
     let whole = scanning::digits_at(text, first);
-    let pointed = scanning::is_at(text, whole.end, 46);
-    let point = scanning::past(text, whole.end, 46);
+    let point = past(whole.end, whole.stop, 46);
     let decimals = scanning::digits_at(text, point);
     let digits = whole.end - first;
     let places = decimals.end - point;
@@ -93,9 +77,10 @@ pub(crate) fn depth_at(text: &[u8], from: usize) -> Depth
     } else {
         0
     };
+    let parts = (whole.stop != 46) | (0 < places);
     Depth {
-        fine: (0 < digits) & (!pointed | (0 < places)) & scanning::is_end(text, decimals.end),
-        minus: scanning::is_at(text, start, 45),
+        fine: (0 < digits) & parts & scanning::is_end(decimals.stop),
+        minus: gap.stop == 45,
         short,
         size,
         next: decimals.end,

@@ -1,17 +1,56 @@
-use Rattle.grids.proofs.LineLaws.{line-end, triangle-line}
+use mathlib.Core.Path.{refl}
+use native.Mathlib.Omega.{arith}
+use borrow.Author.Needs.{needs}
+use borrow.Author.Tests.{not-true, not-false}
+use Rattle.rows.proofs.ScanLaws.{both-left, both-right}
+use Rattle.grids.proofs.FieldLaws.{number-seen}
+use Rattle.grids.proofs.LineLaws.{three-seen, not-here, not-more, not-there, line-end, triangle-line, triangle-none}
 use Rattle.grids.proofs.entries.triangle_at.Statement.{statement}
 use Rattle.grids.proofs.entries.triangle_at.Tie as tie
 
 returns : tie.Need-returns
-returns c =
-    let ended = c .before .before .before .before .before in
-    let skipped = ended .before .before .before in
-    let r = skipped .before in
-    let q = r .before in
-    let p = q .before in
-    let k = p .before in
-    let end = line-end _ (skipped .skip .ensures) (ended .is-line-end .ensures) (c .past .ensures) in
-    triangle-line (k .before .number-at .ensures) (k .number-at2 .ensures) (p .number-at3 .ensures) (q .number-at4 .ensures) (r .number-at5 .ensures) end _
+returns c = triangle-none _ _ refl (not-there _ _ (c .if1 .taken) _ _)
+
+returns-2 : tie.Need-returns-2
+returns-2 c =
+    let tested = c .before in
+    let k-tested = tested .before .before in
+    let k = k-tested .before in
+    let n = k .before .before in
+    let n-seen = number-seen (n .before .skip .ensures) (n .digits-at .ensures) (tested .is-number2 .ensures) in
+    let k-seen = number-seen (k .before .skip2 .ensures) (k .digits-at2 .ensures) (k-tested .is-number .ensures) in
+    triangle-none _ _ refl (not-more (n-seen .seen) (not-true _ (c .if2 .taken)) _ (λ f. not-here (three-seen k-seen) f _))
+
+returns-3 : tie.Need-returns-3
+returns-3 c =
+    let q-tested = c .before in
+    let p-tested = q-tested .before in
+    let r-tested = p-tested .before .before in
+    let end = r-tested .before in
+    let r = end .before in
+    let q = r .before .before in
+    let p = q .before .before in
+    let on = p .before .before in
+    let tested = on .before in
+    let k-tested = tested .before .before in
+    let k = k-tested .before in
+    let n = k .before .before in
+    let n-seen = number-seen (n .before .skip .ensures) (n .digits-at .ensures) (tested .is-number2 .ensures) in
+    let k-seen = number-seen (k .before .skip2 .ensures) (k .digits-at2 .ensures) (k-tested .is-number .ensures) in
+    let p-seen = number-seen (p .before .skip3 .ensures) (p .digits-at3 .ensures) (p-tested .is-number4 .ensures) in
+    let q-seen = number-seen (q .before .skip4 .ensures) (q .digits-at4 .ensures) (q-tested .is-number5 .ensures) in
+    let r-seen = number-seen (r .before .skip5 .ensures) (r .digits-at5 .ensures) (r-tested .is-number3 .ensures) in
+    let both = not-false _ (on .if2 .left) in
+    triangle-line n-seen (both-left _ _ both) k-seen (both-right (tested .is-number2 .result) _ both) p-seen q-seen r-seen (line-end (end .skip-rest .ensures)) _
+
+add-next : tie.Need-add-t17
+add-next c =
+    let end = c .before .before .before .before .before in
+    let p = end .before .before .before .before .before in
+    let n = p .before .before .before .before .before .before .before .before in
+    record { fits = omega (arith, end .skip-rest .ensures .within, n .before .before .before .before .good .0 .1) }
 
 pub triangle-at-spec : {M : Type 1} → statement M
-triangle-at-spec = tie.close (tie.spec (λ c κs. tt) (λ c κs. tt) (λ c κs. tt) (λ c κs. tt) (λ c κs. tt) (λ c κs. tt) (λ c κs. tt) (λ c κs. tt) returns)
+triangle-at-spec =
+    tie.close
+    (tie.spec returns (λ c κs. search needs) (λ c κs. search needs) (λ c κs. search needs) (λ c κs. search needs) (λ c κs. search needs) (λ c κs. search needs) returns-2 (λ c κs. search needs) (λ c κs. search needs) (λ c κs. search needs) (λ c κs. search needs) (λ c κs. search needs) (λ c κs. search needs) (λ c κs. search needs) (λ c κs. search needs) (λ c κs. search needs) (λ c κs. search needs) add-next returns-3)
