@@ -11,10 +11,9 @@ use lib.ListN.{length, drop}
 use lib.Seq.{drop-drop}
 use Rattle.rows.proofs.ScanLaws.{both-left, both-right}
 use Rattle.grids.specs.Numbers.{isDigit, onlyDigits, isNumber, numberFrom, numberOf, startsWith, without, isMinus, unsigned, isWhole, beforeFirst, afterFirst, has, wholeDigits, decimals, isDepth, isShort}
-use Rattle.grids.specs.Private.{unspaced, digitsOf, isEnd, most, cappedFrom, capped, GapSeen, DigitsSeen, closed, first, Seen, NumberSeen, WholeSeen, sizeOf, DepthSeen}
+use Rattle.grids.specs.Private.{unspaced, digitsOf, isEnd, most, cappedFrom, capped, GapSeen, DigitsSeen, closed, first, NumberSeen, WholeSeen, sizeOf, DepthSeen}
 use Rattle.grids.specs.declared.scanning.Gap.{Gap}
 use Rattle.grids.specs.declared.scanning.Digits.{Digits}
-use Rattle.grids.specs.declared.fields.Depth.{Depth}
 use Rattle.grids.proofs.LeftLaws.{digit-range, ends-front, starts-front, past-left}
 use Rattle.grids.proofs.WordLaws.{word, beyond, inside, digit-inside, never, nothing, first-word, seen-word}
 
@@ -87,14 +86,14 @@ number-below (b ∷ t) v d =
     let same : ((v + 1) * 10) * p ≡ (v + 1) * 10 ^ suc (length t) = mul-assoc (v + 1) 10 p ∙ ap (λ (q : ℕ). (v + 1) * q) (mul-comm 10 p ∙ sym (pow-suc 10 (length t))) in
     omega (arith, more, top, same)
 
-pub number-short : (t : List ℕ) (k : ℕ) → onlyDigits t ≡ true → length t ≤ k → numberOf t < 10 ^ k
+number-short : (t : List ℕ) (k : ℕ) → onlyDigits t ≡ true → length t ≤ k → numberOf t < 10 ^ k
 number-short t k d l =
     let below = number-below t 0 d in
     let grows : 10 ^ length t ≤ 10 ^ k = pow-le-pow-right (omega arith) l in
     omega (arith, below, grows)
 
 -- ---- the optional minus
-pub minus-word : (u : List ℕ) → isMinus (word u) ≡ isMinus u
+minus-word : (u : List ℕ) → isMinus (word u) ≡ isMinus u
 unfolding startsWith word
 minus-word [] = refl
 minus-word (b ∷ t) = go (isEnd (b ∷ t)) refl (eqb b 45) refl
@@ -134,11 +133,11 @@ longer from zero = le-ltb from (from + 0) (omega arith)
 longer from (suc n) = lt-ltb from (from + suc n) (omega arith) ∙ sym (lt-ltb 0 (suc n) (omega arith))
 
 module _ (text : List ℕ) (from end : ℕ) (long : end ≡ from + length (digitsOf (drop from text))) where
-  pub run-left : drop end text ≡ tail (drop from text)
+  run-left : drop end text ≡ tail (drop from text)
   run-left = ap (λ (k : ℕ). drop k text) long ∙ sym (drop-drop (length (digitsOf (drop from text))) from text)
 
   module _ {e : Bool} (ends : e ≡ isEnd (drop end text)) where
-    pub run-fine : (ltb from end && e) ≡ isNumber (word (drop from text))
+    run-fine : (ltb from end && e) ≡ isNumber (word (drop from text))
     run-fine =
         (λ i. ltb from (long i) && ends i)
         ∙ (λ i. longer from (length (digitsOf (drop from text))) i && isEnd (run-left i))
@@ -147,17 +146,17 @@ module _ (text : List ℕ) (from end : ℕ) (long : end ≡ from + length (digit
     at-end : (ltb from end && e) ≡ true → isEnd (tail (drop from text)) ≡ true
     at-end f = ap isEnd (sym run-left) ∙ sym ends ∙ both-right (ltb from end) e f
 
-    pub run-all : (ltb from end && e) ≡ true → digitsOf (drop from text) ≡ word (drop from text)
+    run-all : (ltb from end && e) ≡ true → digitsOf (drop from text) ≡ word (drop from text)
     run-all f = run (drop from text) .all (at-end f)
 
-    pub run-rest : (ltb from end && e) ≡ true → drop end text ≡ beyond (drop from text)
+    run-rest : (ltb from end && e) ≡ true → drop end text ≡ beyond (drop from text)
     run-rest f = run-left ∙ run (drop from text) .rest (at-end f)
 
-pub no-number : isNumber [] ≡ false
+no-number : isNumber [] ≡ false
 unfolding isNumber
 no-number = refl
 
-pub no-whole : isWhole [] ≡ false
+no-whole : isWhole [] ≡ false
 unfolding isNumber without
 no-whole = refl
 
@@ -333,7 +332,7 @@ pub record Found (text : List ℕ) (from mid point end : ℕ) : Type 0 where
   pub decimals : end ≡ point + length (digitsOf (drop point text))
 
 module _ {text : List ℕ} {from mid point end : ℕ} (found : Found text from mid point end) where
-  pub found-after : drop point text ≡ after (drop from text)
+  found-after : drop point text ≡ after (drop from text)
   found-after = found .pointed ∙ ap (without 46) (run-left text from mid (found .digits))
 
   found-left : drop end text ≡ tail (after (drop from text))
@@ -345,7 +344,7 @@ module _ {text : List ℕ} {from mid point end : ℕ} (found : Found text from m
   pub found-places : end - point ≡ length (digitsOf (drop point text))
   found-places = omega (arith, found .decimals)
 
-pub no-depth : isDepth [] ≡ false
+no-depth : isDepth [] ≡ false
 unfolding isDepth isNumber without beforeFirst
 no-depth = refl
 

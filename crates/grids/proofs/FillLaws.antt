@@ -1,6 +1,6 @@
 -- What a line that was accepted fills, and rooms that are filled place by place.
-use Prim.Native.Nat.{ℕ, suc, _+_, _-_, _*_, _/_, _%_, _≤_, _<_}
-use mathlib.Core.Path.{_≡_, refl, sym, ap, _∙_}
+use Prim.Native.Nat.{ℕ, _+_, _-_, _*_, _/_, _%_, _≤_, _<_}
+use mathlib.Core.Path.{_≡_, sym, ap, _∙_}
 use mathlib.Core.Bool.{Bool, true, _&&_}
 use mathlib.Core.List.{List}
 use native.Mathlib.Omega.{arith}
@@ -8,7 +8,7 @@ use borrow.Author.Tests.{leb-true}
 use lib.Dec.{leb}
 use lib.IntN.{ℤ}
 use lib.ListN.{length, set}
-use lib.Ieee.{Float, ofInt, binary64}
+use lib.Ieee.{ofInt, binary64}
 use Rattle.rows.specs.declared.Answer.{Answer}
 use Rattle.rows.specs.Numbers.{decimal}
 use Rattle.rows.proofs.ScanLaws.{row-passed, then-first, then-rest, both-left, both-right}

@@ -10,7 +10,7 @@ use lib.IntN.{ℤ}
 use lib.ListN.{length}
 use lib.Ieee.{Float}
 use Rattle.rows.specs.declared.Answer.{Answer}
-use Rattle.rows.specs.Scan.{row, _then_, scan}
+use Rattle.rows.specs.Scan.{row, scan}
 use Rattle.rows.proofs.ScanLaws.{row-passed, then-first, then-rest, scan-clean, scan-same, same-number, other-number, both-left, both-right}
 use Rattle.lists.specs.Table.{table}
 use Rattle.lists.proofs.TableLaws.{table-same}
@@ -54,10 +54,10 @@ module _ (x y h tri : ℕ) (t : List ℕ) (e : lineCounts x y h tri (lineOf t 1)
   nodes-roomed : (eqb x (countN t) && eqb y (countN t) && eqb h (countN t)) ≡ true
   nodes-roomed = both-left (eqb x (countN t) && eqb y (countN t) && eqb h (countN t)) (eqb tri (3 * countE t)) roomed
 
-  pub long-x : x ≡ countN t
+  long-x : x ≡ countN t
   long-x = eqb-true x (countN t) (both-left _ (eqb y (countN t)) (both-left (eqb x (countN t) && eqb y (countN t)) (eqb h (countN t)) nodes-roomed))
 
-  pub long-y : y ≡ countN t
+  long-y : y ≡ countN t
   long-y = eqb-true y (countN t) (both-right (eqb x (countN t)) _ (both-left (eqb x (countN t) && eqb y (countN t)) (eqb h (countN t)) nodes-roomed))
 
   pub long-h : h ≡ countN t

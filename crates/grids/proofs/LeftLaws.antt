@@ -7,7 +7,7 @@ use native.Mathlib.Nat.{pow-suc, pow-le-pow-right}
 use native.Mathlib.Numerals.{add-one}
 use native.Mathlib.Omega.{arith}
 use borrow.Author.Tests.{eq-eqb, ne-eqb, leb-true, le-leb}
-use lib.Dec.{eqb, leb, ltb}
+use lib.Dec.{eqb, leb}
 use lib.ListN.{length, getD, drop, drop-of-length-le, length-drop}
 use lib.Seq.{drop-cons, drop-drop}
 use Rattle.rows.proofs.ScanLaws.{both-left, both-right}
@@ -46,12 +46,12 @@ module _ (t : List ℕ) (at : ℕ) where
   space-end l = rw (none l)
 
   -- a run of digits: its value goes on from v, and it is as long as what follows and one more
-  pub digit-value : (v : ℕ) → at < length t → isDigit (getD t at 0) ≡ true
+  digit-value : (v : ℕ) → at < length t → isDigit (getD t at 0) ≡ true
       → cappedFrom v (digitsOf (drop at t)) ≡ cappedFrom (min (10 * v + (getD t at 0 - 48)) most) (digitsOf (drop (at + 1) t))
   unfolding digitsOf cappedFrom
   digit-value v l e = rw (left l, e)
 
-  pub digit-count : at < length t → isDigit (getD t at 0) ≡ true → length (digitsOf (drop at t)) ≡ 1 + length (digitsOf (drop (at + 1) t))
+  digit-count : at < length t → isDigit (getD t at 0) ≡ true → length (digitsOf (drop at t)) ≡ 1 + length (digitsOf (drop (at + 1) t))
   unfolding digitsOf
   digit-count l e = rw (left l, e) (omega arith)
 

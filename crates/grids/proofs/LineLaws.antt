@@ -1,7 +1,7 @@
 -- A line that is read field by field has exactly the fields that it is to have.
 use Prim.Native.Nat.{ℕ, suc, _+_, _^_, _≤_, _<_}
 use mathlib.Core.Path.{_≡_, refl, sym, ap, _∙_}
-use mathlib.Core.Bool.{Bool, true, false, _&&_, _||_}
+use mathlib.Core.Bool.{Bool, true, false, _&&_}
 use mathlib.Core.List.{List, [], _∷_}
 use native.Mathlib.Omega.{arith}
 use borrow.Author.Tests.{eqb-true, eqb-false, eq-eqb, ne-eqb}
@@ -10,7 +10,7 @@ use lib.ListN.{length, getD, drop, drop-of-length-le}
 use lib.Seq.{drop-drop}
 use Rattle.rows.proofs.ScanLaws.{both-left, both-right}
 use Rattle.grids.specs.Text.{piecesOf, filled, fieldsOf, exactly}
-use Rattle.grids.specs.Numbers.{numberOf, startsWith, isMinus, unsigned, isDepth, beforeFirst, afterFirst, isShort}
+use Rattle.grids.specs.Numbers.{numberOf, startsWith, isMinus, unsigned, beforeFirst, afterFirst, isShort}
 use Rattle.grids.specs.Grid.{isThree}
 use Rattle.grids.specs.Private.{unspaced, isEnd, isLineEnd, most, capped, GapSeen, present, first, its, countTests, nodeTests, triangleTests, Seen, NumberSeen, WholeSeen, sizeOf, DepthSeen, LineSeen, CountsSeen, NodeSeen, TriangleSeen}
 use Rattle.grids.specs.declared.scanning.Gap.{Gap}
@@ -70,7 +70,7 @@ exactly-yes is tests f fs e = rw e
 
 module _ {is : List ℕ → Bool} {t : List ℕ} {fine : Bool} {rest : List ℕ} (s : Seen is t fine rest) where
   -- the other fields tell, where this one is what it is to be
-  pub later : fine ≡ true → (tests : List (List ℕ → Bool)) {b : Bool} → b ≡ exactly tests (fieldsOf (present rest)) → b ≡ exactly (is ∷ tests) (fieldsOf (present t))
+  later : fine ≡ true → (tests : List (List ℕ → Bool)) {b : Bool} → b ≡ exactly tests (fieldsOf (present rest)) → b ≡ exactly (is ∷ tests) (fieldsOf (present t))
   later e tests o =
       o
       ∙ exactly-yes is tests (first t) (fieldsOf (present rest)) (sym (s .holds) ∙ e)
@@ -87,7 +87,7 @@ module _ {is : List ℕ → Bool} {t : List ℕ} {fine : Bool} {rest : List ℕ}
       go true e = later e tests (h (rw e at off))
       go false e = not-here e tests
 
-  pub line-on : fine ≡ true → {tests : List (List ℕ → Bool)} {others : Bool} {next : List ℕ} → LineSeen tests rest others next → LineSeen (is ∷ tests) t others next
+  line-on : fine ≡ true → {tests : List (List ℕ → Bool)} {others : Bool} {next : List ℕ} → LineSeen tests rest others next → LineSeen (is ∷ tests) t others next
   line-on e {tests} l = record { holds = later e tests (l .holds); after = λ f. l .after f ∙ s .line e }
 
   pub line-more : {tests : List (List ℕ → Bool)} {others : Bool} {next : List ℕ} → LineSeen tests rest others next → LineSeen (is ∷ tests) t (fine && others) next
@@ -101,7 +101,7 @@ module _ {is : List ℕ → Bool} {t : List ℕ} {fine : Bool} {rest : List ℕ}
       go false e = ap (λ (b : Bool). b && others) e ∙ not-here e tests
 
   -- the fields that follow are those of what is left
-  pub its-more : fine ≡ true → (k : ℕ) → its t (suc k) ≡ its rest k
+  its-more : fine ≡ true → (k : ℕ) → its t (suc k) ≡ its rest k
   its-more f k = ap (λ (fs : List (List ℕ)). getD fs (suc k) []) (s .fields f)
 
 -- at the text's end there is no field

@@ -1,16 +1,15 @@
 -- The rows of a line, tested on what was read of it: a number that was counted up to the limit answers as the number itself.
-use Prim.Native.Nat.{ℕ, zero, suc, _+_, _*_, _^_, _≤_, _<_}
+use Prim.Native.Nat.{ℕ, zero, suc, _+_, _*_, _^_, _<_}
 use mathlib.Core.Path.{_≡_, refl, sym, ap, _∙_}
 use mathlib.Core.Bool.{Bool, true, false, cond, _&&_, and-true, and-false}
-use mathlib.Core.List.{List, [], _∷_}
+use mathlib.Core.List.{List}
 use native.Mathlib.Omega.{arith}
 use borrow.Author.Tests.{leb-true, leb-false, le-leb, lt-leb, ne-eqb}
-use lib.Dec.{eqb, leb, ltb, leb·suc-suc}
-use lib.IntN.{ℤ, pos, negℤ}
+use lib.Dec.{eqb, leb, leb·suc-suc}
 use Rattle.rows.specs.declared.Answer.{Answer}
 use Rattle.rows.specs.Scan.{row, _then_}
-use Rattle.rows.proofs.ScanLaws.{row-holds, row-fails, row-passed, then-first, then-stop, same-number}
-use Rattle.grids.specs.Numbers.{numberOf, signed, wholeOf, unsigned, isMinus, in32, isShort, afterFirst}
+use Rattle.rows.proofs.ScanLaws.{row-fails, row-passed, then-first, then-stop}
+use Rattle.grids.specs.Numbers.{numberOf, signed, wholeOf, unsigned, isMinus, in32, afterFirst}
 use Rattle.grids.specs.Grid.{nodeLineRows, isCorner, triangleLineRows}
 use Rattle.grids.specs.Private.{most, capped, present, its, NodeSeen, TriangleSeen, CountsSeen, isRoomed, lineCounts}
 use Rattle.grids.specs.declared.entries.Counts.{Counts}
@@ -19,7 +18,7 @@ use Rattle.grids.specs.declared.entries.TriangleLine.{TriangleLine}
 use Rattle.grids.proofs.LineLaws.{capped-is}
 
 -- ---- what follows a row is looked at only where it accepts
-pub then-same : {test : Bool} (number place : ℕ) {b c : Answer} → (test ≡ true → b ≡ c) → (row test (suc number) place then b) ≡ (row test (suc number) place then c)
+then-same : {test : Bool} (number place : ℕ) {b c : Answer} → (test ≡ true → b ≡ c) → (row test (suc number) place then b) ≡ (row test (suc number) place then c)
 then-same {test} number place {b} {c} h = go test refl
   where
     go : (d : Bool) → test ≡ d → (row test (suc number) place then b) ≡ (row test (suc number) place then c)

@@ -1,11 +1,11 @@
 -- A sign and a size as a whole number: how large it is, and that 32 and 64 bits and a float hold it.
-use Prim.Native.Nat.{ℕ, zero, suc, _^_, _≤_, _<_}
+use Prim.Native.Nat.{ℕ, zero, suc, _^_, _≤_}
 use mathlib.Core.Path.{_≡_, refl, sym, ap, _∙_}
-use mathlib.Core.Bool.{Bool, true, false, cond}
+use mathlib.Core.Bool.{Bool, true, false}
 use native.Mathlib.Omega.{arith}
 use borrow.Author.Tests.{leb-true}
-use lib.Dec.{T, leb}
-use lib.IntN.{ℤ, pos, negsuc, negℤ, natAbs, _-ℤ_, +ℤ-idl}
+use lib.Dec.{T}
+use lib.IntN.{ℤ, pos, negℤ, natAbs, _-ℤ_, +ℤ-idl}
 use lib.Ieee.{binary64, inFloat}
 use mir.Syntax.{w32, w64}
 use mir.Val.{SFits, toZ, ofZ}
@@ -24,7 +24,7 @@ module _ (v : ℕ) (small : v ≤ 2 ^ 53) where
   as-64 : toZ w64 v ≡ pos v
   as-64 = toZ-pos w64 (omega arith)
 
-  pub signed-64 : (m : Bool) → SFits w64 (signed m v)
+  signed-64 : (m : Bool) → SFits w64 (signed m v)
   signed-64 m = holds w64 (signed m v) (omega (arith, size-signed m v))
 
   negated : pos 0 -ℤ toZ w64 v ≡ signed true v

@@ -1,15 +1,15 @@
 -- The next field of what is left of a line, as a reader of one byte after the other meets it: spaces, then the bytes up to the field's end.
-use Prim.Native.Nat.{ℕ, suc, _+_, _≤_, _<_}
+use Prim.Native.Nat.{ℕ}
 use mathlib.Core.Path.{_≡_, refl, sym, ap, _∙_}
-use mathlib.Core.Bool.{Bool, true, false, _&&_, _||_, cond, true≢false}
+use mathlib.Core.Bool.{Bool, true, false, _||_, cond, true≢false}
 use mathlib.Core.List.{List, [], _∷_}
 use native.Mathlib.Omega.{arith}
-use borrow.Author.Tests.{eqb-true, ne-eqb, leb-true}
-use lib.Dec.{eqb, leb}
-use lib.ListN.{length, getD, drop}
+use borrow.Author.Tests.{eqb-true, ne-eqb}
+use lib.Dec.{eqb}
+use lib.ListN.{getD}
 use Rattle.grids.specs.Text.{cut, piecesOf, filled, fieldsOf}
-use Rattle.grids.specs.Numbers.{isDigit, onlyDigits, startsWith, without, beforeFirst, afterFirst}
-use Rattle.grids.specs.Private.{unspaced, digitsOf, isEnd, present, first, Seen}
+use Rattle.grids.specs.Numbers.{isDigit, startsWith, beforeFirst, afterFirst}
+use Rattle.grids.specs.Private.{unspaced, isEnd, present, first, Seen}
 use Rattle.grids.proofs.LeftLaws.{digit-range}
 
 -- what stands before the next end of a field, and what is left from there on
@@ -23,7 +23,7 @@ beyond (b ∷ t) = cond (isEnd (b ∷ t)) (b ∷ t) (beyond t)
 
 -- ---- one byte
 -- a byte that is this one is not that one
-pub apart : (b m k : ℕ) → eqb b m ≡ true → (m ≡ k → ⊥) → eqb b k ≡ false
+apart : (b m k : ℕ) → eqb b m ≡ true → (m ≡ k → ⊥) → eqb b k ≡ false
 apart b m k e n = ne-eqb b k (λ p. n (sym (eqb-true b m e) ∙ p))
 
 not-or : {p q : Bool} → p ≡ false → q ≡ false → (p || q) ≡ false

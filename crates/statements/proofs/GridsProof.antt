@@ -6,8 +6,7 @@ use borrow.Author.Tests.{eq-eqb, ne-eqb}
 use Rattle.quantities.specs.declared.Parameters.{Parameters}
 use Rattle.mesh.specs.Lent.{Mesh}
 use Rattle.surge.specs.Step.{stepOf}
-use Rattle.grids.specs.Grid.{Grid, gridAnswer, gridOf, gridMesh, readOf}
-use Rattle.demands.specs.Demand1.{Accepts}
+use Rattle.grids.specs.Grid.{Grid, gridMesh, readOf}
 use Rattle.demands.specs.Demand3.{coldRun}
 use Rattle.demands.proofs.Demand3Proof.{demand3-at-surge, opens-cold}
 use Rattle.statements.specs.Grids.{GridSays, GridDemands, meshLeft, OnTheMesh, RunsOnMeshesRead}

@@ -1,5 +1,4 @@
 use mathlib.Core.Path.{_≡_, _∙_}
-use borrow.Author.Needs.{needs}
 use Rattle.rows.proofs.ScanLaws.{same-number}
 use Rattle.grids.proofs.RowLaws.{countsTested, counts-row, counts-next}
 use Rattle.grids.proofs.asking.counts_row.Statement.{statement}

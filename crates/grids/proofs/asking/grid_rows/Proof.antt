@@ -2,7 +2,6 @@ use Prim.Native.Nat.{ℕ, _/_}
 use mathlib.Core.Path.{_≡_, sym, ap, _∙_}
 use mathlib.Core.List.{List}
 use native.Mathlib.Omega.{arith}
-use borrow.Author.Needs.{needs}
 use lib.ListN.{drop}
 use Rattle.rows.specs.declared.Answer.{Answer}
 use Rattle.rows.specs.Scan.{_then_, scan}

@@ -1,4 +1,3 @@
-use mathlib.Core.Path.{_≡_, sym}
 use borrow.Author.Needs.{needs}
 use borrow.Author.Tests.{eq-eqb, ne-eqb}
 use Rattle.grids.proofs.fields.past.Statement.{statement}

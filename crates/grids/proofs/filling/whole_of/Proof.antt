@@ -1,8 +1,6 @@
 use Prim.Native.Nat.{_^_, _≤_}
-use mathlib.Core.Path.{_∙_, sym, ap}
 use native.Mathlib.Omega.{arith}
 use mir.Syntax.{w32}
-use mir.Val.{SFits}
 use mir.Facts.{toZ-ofZ}
 use Rattle.grids.proofs.SignLaws.{handed, size-32, signed-32}
 use Rattle.grids.proofs.filling.whole_of.Statement.{statement}

@@ -1,12 +1,10 @@
-use Prim.Native.Nat.{ℕ, _+_, _-_, _*_, _^_, _≤_, _<_, min}
-use mathlib.Core.Path.{_≡_, refl, sym, ap, _∙_}
-use mathlib.Core.Bool.{Bool, true, false}
+use Prim.Native.Nat.{ℕ, _+_, _-_, _^_, _≤_, _<_}
+use mathlib.Core.Path.{refl}
 use mathlib.Core.List.{List}
 use mathlib.Core.Logic.{⊎-elim}
 use native.Mathlib.Omega.{arith}
 use borrow.Author.Needs.{needs}
-use lib.ListN.{length, getD, drop}
-use Rattle.grids.specs.Numbers.{isDigit}
+use lib.ListN.{length}
 use Rattle.grids.specs.Private.{most}
 use Rattle.grids.proofs.LeftLaws.{digit-none, front-there, digit-yes, digit-no, Going, going-starts, going-more, going-same, going-ends, going-through, grown, few}
 use Rattle.grids.proofs.scanning.digits_at.Statement.{statement}
