@@ -13,6 +13,7 @@ use Rattle.quantities.specs.declared.Forcing.{Forcing}
 use Rattle.quantities.specs.declared.Node.{Node}
 use Rattle.quantities.specs.declared.Sides.{Sides}
 use Rattle.quantities.specs.declared.Shares.{Shares}
+use Rattle.quantities.specs.declared.Push.{Push}
 use Rattle.quantities.specs.declared.Flow.{Flow}
 use Rattle.quantities.specs.Operations.{_⊕_}
 use Rattle.triangle.specs.Triangle.{slope}
@@ -105,9 +106,12 @@ module _ (g : Given) where
   abbrev pub Py : ℕ → Float
   Py = gathered floating cornersOf slopeY (E (g .mesh))
 
-  -- U' and V' of node i
+  -- U' and V' of node i, and what they are made from
+  abbrev pub pushAt : ℕ → Push
+  pushAt i = pushOf (node i) (g .wind) (g .forcing) (floatS i) (rise i) (Px i) (Py i)
+
   unfoldable pub flowAt : ℕ → Flow
-  flowAt i = flowOf (g .p) (kindOf i) (pushOf (node i) (g .wind) (g .forcing) (floatS i) (rise i) (Px i) (Py i))
+  flowAt i = flowOf (g .p) (kindOf i) (pushAt i)
 
   abbrev pub U′ : ℕ → Float
   U′ i = flowAt i .u
@@ -115,6 +119,9 @@ module _ (g : Given) where
   abbrev pub V′ : ℕ → Float
   V′ i = flowAt i .v
 
-  -- "The next state is z, z', U', V'"
+  -- "The next state is z, z', U', V'": with U' and V' of each node
+  abbrev pub nextBy : (ℕ → Flow) → List Float
+  nextBy flows = runsOf count ((λ i. node i .z) ∷ rise ∷ (λ i. flows i .u) ∷ (λ i. flows i .v) ∷ [])
+
   unfoldable pub nextState : List Float
-  nextState = runsOf count ((λ i. node i .z) ∷ rise ∷ U′ ∷ V′ ∷ [])
+  nextState = nextBy flowAt

@@ -52,12 +52,15 @@ module _ (m : Mesh) (p : Parameters) (s : Run) (f : Forcing) where
     abbrev pub refusedBy13 : Answer → StepOut
     refusedBy13 a = record { reply = record { answer = a; clock = s .clock }; rooms = cleared (r .next) (N m) }
 
-    abbrev pub wentOn : Answer → StepOut
-    wentOn a = record { reply = record { answer = a; clock = advance .clock }; rooms = cleared (advance .state) (N m) }
+    abbrev pub wentTo : Run → Answer → StepOut
+    wentTo next a = record { reply = record { answer = a; clock = next .clock }; rooms = cleared (next .state) (N m) }
 
-    -- by the answer of what is tested first, and then by that of row 13
-    unfoldable pub stepsTo : Answer → Answer → StepOut
-    stepsTo first last = cond (eqb (first .number) 0) (cond (eqb (last .number) 0) (wentOn last) (refusedBy13 last)) (refusedBefore first)
+    abbrev pub wentOn : Answer → StepOut
+    wentOn = wentTo advance
+
+    -- by the run that the equations give, the answer of what is tested first, and then that of row 13
+    unfoldable pub stepsTo : Run → Answer → Answer → StepOut
+    stepsTo next first last = cond (eqb (first .number) 0) (cond (eqb (last .number) 0) (wentTo next last) (refusedBy13 last)) (refusedBefore first)
 
     unfoldable pub stepOf : StepOut
-    stepOf = stepsTo stepRows (row13 givenOf)
+    stepOf = stepsTo advance stepRows (row13 givenOf)

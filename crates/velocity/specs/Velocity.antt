@@ -50,29 +50,37 @@ module _ (run : Parameters) (node : Push) where
   unfoldable pub wy : Float
   wy = (dt ⊗ (Wy′ ⊘ H′ ⊕ Wy ⊘ H)) ⊘ two
 
-  -- "Rx = ((m·U + q·V) - gx) + wx, Ry = ((m·V - q·U) - gy) + wy, n = p·p + q·q."
-  unfoldable pub Rx : Float
-  Rx = ((m ⊗ u ⊕ q ⊗ v) ⊖ gx) ⊕ wx
-
-  unfoldable pub Ry : Float
-  Ry = ((m ⊗ v ⊖ q ⊗ u) ⊖ gy) ⊕ wy
-
+  -- "n = p·p + q·q."
   unfoldable pub n : Float
   n = p ⊗ p ⊕ q ⊗ q
 
-  -- "U' = (p·Rx + q·Ry)/n, V' = (p·Ry - q·Rx)/n."
-  unfoldable pub U′ : Float
-  U′ = (p ⊗ Rx ⊕ q ⊗ Ry) ⊘ n
+  module _ (m : Float) where
+    -- "Rx = ((m·U + q·V) - gx) + wx, Ry = ((m·V - q·U) - gy) + wy"
+    unfoldable pub Rx : Float
+    Rx = ((m ⊗ u ⊕ q ⊗ v) ⊖ gx) ⊕ wx
 
-  unfoldable pub V′ : Float
-  V′ = (p ⊗ Ry ⊖ q ⊗ Rx) ⊘ n
+    unfoldable pub Ry : Float
+    Ry = ((m ⊗ v ⊖ q ⊗ u) ⊖ gy) ⊕ wy
+
+    -- "U' = (p·Rx + q·Ry)/n, V' = (p·Ry - q·Rx)/n."
+    unfoldable pub U′ : Float
+    U′ = (p ⊗ Rx ⊕ q ⊗ Ry) ⊘ n
+
+    unfoldable pub V′ : Float
+    V′ = (p ⊗ Ry ⊖ q ⊗ Rx) ⊘ n
+
+    abbrev pub flowBy : Flow
+    flowBy = record { u = U′; v = V′ }
 
   unfoldable pub flow : Flow
-  flow = record { u = U′; v = V′ }
+  flow = flowBy m
 
 -- of a node of this kind: "At kind 2 both are +0."
+abbrev pub ofKind : ℕ → Flow → Flow
+ofKind kind v = cond (eqb kind 2) (record { u = plus0; v = plus0 }) v
+
 unfoldable pub flowOf : Parameters → ℕ → Push → Flow
-flowOf run kind x = cond (eqb kind 2) (record { u = plus0; v = plus0 }) (flow run x)
+flowOf run kind x = ofKind kind (flow run x)
 
 -- what they are made from: a node, the present wind and the forcing's new one, S, z', Px and Py
 abbrev pub pushOf : Node → Wind → Forcing → Float → Float → Float → Float → Push
