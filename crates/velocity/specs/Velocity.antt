@@ -24,7 +24,7 @@ module _ (run : Parameters) (node : Push) where
   unfoldable pub H′ : Float
   H′ = h ⊕ z′
 
-  -- "r = (dt·K)/(2·H'), p = 1+r, m = 1-r, q = (f·dt)/2."
+  -- "r = (dt·K)/(2·H'), p = 1+r, … q = (f·dt)/2." Document 02, #102: "From here m = 1 - (dt·K)/(2·H) with H at the present step, while p keeps H'."
   unfoldable pub r : Float
   r = (dt ⊗ K) ⊘ (two ⊗ H′)
 
@@ -32,7 +32,7 @@ module _ (run : Parameters) (node : Push) where
   p = one ⊕ r
 
   unfoldable pub m : Float
-  m = one ⊖ r
+  m = one ⊖ (dt ⊗ K) ⊘ (two ⊗ H)
 
   unfoldable pub q : Float
   q = (f ⊗ dt) ⊘ two

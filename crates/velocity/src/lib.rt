@@ -17,7 +17,7 @@ fn flow(run: Parameters, node: Push) -> Flow
     let column_new = node.h + node.rise;
     let r = (run.dt * run.k) / (2.0 * column_new);
     let p = 1.0 + r;
-    let m = 1.0 - r;
+    let m = 1.0 - (run.dt * run.k) / (2.0 * column);
     let q = (run.f * run.dt) / 2.0;
     let gx = ((G * run.dt) * node.px) / (2.0 * node.s);
     let gy = ((G * run.dt) * node.py) / (2.0 * node.s);
