@@ -1,5 +1,5 @@
-//! The formulas of document 01 on single values, shared by the two plain programs. The operations and their order are the document's, so that the bits
-//! are the product's. What does not change within a step is worked out once, before the loops.
+//! The formulas of document 01 on single values, m as #102 of document 02 has it, shared by the two plain programs. The operations and their order are the
+//! documents', so that the bits are the product's. What does not change within a step is worked out once, before the loops.
 
 use crate::run::{Clock, Forcing, Parameters};
 
@@ -128,8 +128,7 @@ pub fn new_velocity(t: &Terms, c: Corner, z_new: f64, px: f64, py: f64, s: u64) 
     let column = c.h + c.z;
     let column_new = c.h + z_new;
     let twice = 2.0 * s as f64;
-    let r = t.friction / (2.0 * column_new);
-    let (p, m, q) = (1.0 + r, 1.0 - r, t.q);
+    let (p, m, q) = (1.0 + t.friction / (2.0 * column_new), 1.0 - t.friction / (2.0 * column), t.q);
     let gx = (t.pull * px) / twice;
     let gy = (t.pull * py) / twice;
     let wx = (t.dt * (t.wx_new / column_new + t.wx / column)) / 2.0;

@@ -3,6 +3,7 @@
 //! refusal left as found.
 
 mod conditions;
+mod friction;
 mod grids;
 mod names;
 pub(crate) mod nans;
@@ -53,6 +54,8 @@ struct Trail {
     calls: usize,
     /// Whether the mesh is one that was read from a grid text.
     mesh_read: bool,
+    /// In how many steps in a row H in m told.
+    told: usize,
 }
 
 impl Trail {
@@ -63,8 +66,16 @@ impl Trail {
         if PLACED.contains(&number) {
             self.places.insert((call, number, called.answer.place));
         }
-        let kept = nans::kept(script, called);
-        for condition in conditions(script, called).into_iter().chain(kept) {
+        let mut met = conditions(script, called);
+        met.extend(nans::kept(script, called));
+        if call == Call::Step {
+            let tells = met.iter().any(|condition| condition == friction::TELLS);
+            self.told = if tells { self.told + 1 } else { 0 };
+            if self.told == 3 {
+                met.push(String::from(friction::TELLS_ON));
+            }
+        }
+        for condition in met {
             self.conditions.insert((call, number, condition));
         }
         if call == Call::Grid {

@@ -296,14 +296,14 @@ struct Water {
 }
 
 impl Water {
-    /// "r = (dt·K)/(2·H'), p = 1+r, m = 1-r, q = (f·dt)/2".
+    /// "r = (dt·K)/(2·H'), p = 1+r", "q = (f·dt)/2", and by request #102
+    /// "m = 1 - (dt·K)/(2·H) with H at the present step, while p keeps H'".
     /// "Rx = ((m·U + q·V) - gx) + wx, Ry = ((m·V - q·U) - gy) + wy,
     /// n = p·p + q·q. U' = (p·Rx + q·Ry)/n, V' = (p·Ry - q·Rx)/n."
     fn new_velocity(&self, parameters: Parameters, clock: Clock, forcing: Forcing) -> (f64, f64) {
         let Parameters { dt, k, f, .. } = parameters;
-        let r = (dt * k) / (2.0 * self.new_column);
-        let p = 1.0 + r;
-        let m = 1.0 - r;
+        let p = 1.0 + (dt * k) / (2.0 * self.new_column);
+        let m = 1.0 - (dt * k) / (2.0 * self.column);
         let q = (f * dt) / 2.0;
         let gx = self.slope(dt, self.px);
         let gy = self.slope(dt, self.py);

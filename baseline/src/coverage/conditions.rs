@@ -1,6 +1,7 @@
 //! Which condition of a row a call met, worked out from what the script holds
 //! after it: a refusal leaves everything as found but, at 13, the work room.
 
+use super::friction;
 use super::grids;
 use super::names::{lent_to, side, LIMITS, PARAMETER_NAMES, RUN_NAMES};
 use crate::frames::byte_of;
@@ -32,7 +33,7 @@ pub(crate) fn conditions(script: &Script, called: Called) -> Vec<String> {
         (9, _) => parameter(script.p, place),
         (10, call) => node(script, call, place),
         (12, call) => wind(script, call, place),
-        (13, _) => one(outcome(script, place)),
+        (13, _) => outcome(script, place),
         (20..=23, Call::Load) => one(text_fault(script, called)),
         (20..=22, _) => one(forcing_fault(script, called)),
         (24, _) => one(room(script, place)),
@@ -262,7 +263,7 @@ fn wind(script: &Script, call: Call, place: usize) -> Vec<String> {
 
 /// Row 13: the new values are worked out once more, to see which left its
 /// range.
-fn outcome(script: &Script, place: usize) -> String {
+fn outcome(script: &Script, place: usize) -> Vec<String> {
     let n = script.x.0.len();
     let (mut work, mut sums) = (vec![0.0; 3 * n], vec![0; n]);
     let (mesh, state) = (mesh(script), State::of(&script.state.0));
@@ -274,12 +275,16 @@ fn outcome(script: &Script, place: usize) -> String {
     let all_pass = (0..n).all(|node| {
         side(work[node], ELEVATION).is_none() && script.h.0[node] + work[node] >= COLUMN
     });
-    let met = if all_pass {
-        beyond("U'", work[n + place], VELOCITY).or(beyond("V'", work[2 * n + place], VELOCITY))
-    } else {
-        beyond("z'", z, ELEVATION).or(short_of_water("H'", column))
-    };
-    met.unwrap_or_default()
+    if !all_pass {
+        let met = beyond("z'", z, ELEVATION).or(short_of_water("H'", column));
+        return met.into_iter().collect();
+    }
+    let (u, v) = (work[n + place], work[2 * n + place]);
+    let met = beyond("U'", u, VELOCITY).or(beyond("V'", v, VELOCITY));
+    let met = met.unwrap_or_default();
+    let mut all = friction::refused(script, &work, place, &met);
+    all.push(met);
+    all
 }
 
 /// What is wrong with a line of a due length, by row 20.
@@ -378,7 +383,10 @@ fn accepted(script: &Script, call: Call) -> Vec<String> {
         met.push(String::from("a leg twice"));
     }
     match call {
-        Call::Step => met.extend(step_limits(script)),
+        Call::Step => {
+            met.extend(step_limits(script));
+            met.extend(friction::accepted(script));
+        }
         Call::Save => met.push(spare_room(script)),
         Call::Load if script.clock.step == u32::MAX => met.push(String::from("last step")),
         _ => (),

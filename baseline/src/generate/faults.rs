@@ -388,9 +388,10 @@ fn nudge(pen: &mut Pen) {
     });
     for _ in 0..pen.dice.one_of(&[1, 1, 2, 3]) {
         let node = pen.any_node();
-        match pen.dice.below(4) {
+        match pen.dice.below(5) {
             0 => rising(pen, node),
             1 => low_tide(pen, node),
+            2 => flooded(pen, node),
             _ => fast(pen, node),
         }
     }
@@ -417,12 +418,34 @@ fn low_tide(pen: &mut Pen, node: usize) {
     let h = pen.dice.one_of(&[1.0, 1.25, 8.0, 29.0]);
     let lowest = lowest_elevation(h);
     let elevation = pen.dice.one_of(&[lowest, lowest.next_down(), -30.0]);
+    open_to(pen, node, h, elevation);
+}
+
+/// Makes a node an open one over a depth, with an open elevation.
+fn open_to(pen: &mut Pen, node: usize, h: f64, elevation: f64) {
     pen.change_element("h", node, word(h), word(pen.script.h.0[node]));
     pen.change_element("kind", node, 1, pen.script.kind.0[node]);
     pen.change_forcing(Forcing {
         elevation,
         ..pen.script.forcing
     });
+}
+
+/// A node with little water is flooded: friction by H in m and H' in p turns
+/// its U or V round and makes it faster, over the limit or not.
+fn flooded(pen: &mut Pen, node: usize) {
+    let (nodes, run) = (pen.nodes(), 2 + pen.dice.below(2));
+    let elevation = pen.dice.one_of(&[0.0, 0.25, 1.0]);
+    open_to(pen, node, 1.0, elevation);
+    let k = pen.dice.one_of(&[1.0, 0.75]);
+    pen.change_parameters(Parameters {
+        dt: 2.0,
+        k,
+        ..pen.script.p
+    });
+    change_state(pen, nodes + node, -0.875);
+    let speed = pen.dice.one_of(&[20.0, -20.0, 1.0, -1.0]);
+    change_state(pen, run * nodes + node, speed);
 }
 
 /// A node's U or V stands at its limit, and the wind may blow that way.

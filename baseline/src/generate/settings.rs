@@ -56,7 +56,7 @@ pub(crate) fn parameters(pen: &mut Pen, manner: Manner) -> Parameters {
             .one_of(&[0.125, 0.125, 1.0, 2.5, 0.5 + some, dt / 16.0, 60.0])
             .max(0.125),
         tau: dice.one_of(&[0.0, -0.0, some, some, tau / 64.0, 1.0]),
-        k: dice.one_of(&[0.0, some, k / 64.0, 1.0]),
+        k: dice.one_of(&[0.0, -0.0, some, k / 64.0, 1.0]),
         f: dice.one_of(&[0.0, f, -0.001, 0.001]),
     }
 }

@@ -52,7 +52,7 @@ fn same_seed_same_text() {
 fn the_scripts_of_seed_1_are_these() {
     for (family, digest) in FAMILIES
         .into_iter()
-        .zip(["262C1AAC563151F5", "B149BBEC1472F094"])
+        .zip(["BABA4B9AB30DCE16", "3463CDA5C6884198"])
     {
         let mut hash = 0xCBF2_9CE4_8422_2325_u64;
         for byte in (0..100).flat_map(|index| generate(family, 1, index)) {

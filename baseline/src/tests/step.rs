@@ -1,6 +1,10 @@
 //! Rows 10 to 13, and what an accepted step writes.
 
 use super::*;
+use crate::generate::dice::Dice;
+use crate::generate::values::{legal, Range};
+use crate::mesh::Mesh;
+use crate::step::{new_values, State};
 
 /// The smallest wind Wx' on T whose U' at U = 20 is one bit beyond 20:
 /// (Wx'/8)/2 is the distance between 20 and its next number.
@@ -276,16 +280,16 @@ fn every_term_against_rational_arithmetic() {
             -0.1098951453125,
         ],
         [
-            0.9562699468320932,
-            -0.36867956807725205,
-            0.29165188691988087,
-            1.873383298575122,
+            0.9555591736869133,
+            -0.36838177954120493,
+            0.29155711802834217,
+            1.875236809842925,
         ],
         [
-            -1.2059917892579612,
-            0.7970257500025529,
-            0.5873186768883607,
-            -0.08002138272081538,
+            -1.204923491123325,
+            0.7965781681373275,
+            0.587129578621074,
+            -0.08025482948687061,
         ],
     ];
     for (number, value) in lent.state.iter().zip(expected.as_flattened()) {
@@ -314,4 +318,128 @@ fn lent_rooms_do_not_matter() {
     filled.step_accepted();
     zero.step_accepted();
     assert_eq!(bits(&filled.state), bits(&zero.state));
+}
+
+/// "m = 1 - (dt·K)/(2·H) with H at the present step, while p keeps H'": an open
+/// T in still air, whose U' is (m·U)/p. dt·K is 0.5, H is 0.5 and H' is 1. With
+/// U = 1, H' in both would give 0.6, H in both a third, each in the other's
+/// place 0.5, H without the 2 nothing, and H of the earlier z 0.64.
+#[test]
+fn friction_by_hand() {
+    let mut lent = uniform([0.25, -0.5, 1.0, -2.0]);
+    lent.h.fill(1.0);
+    lent.kind.fill(1);
+    (lent.p.dt, lent.p.k) = (8.0, 0.0625);
+    lent.step_accepted();
+    let (p, m) = (1.25, 0.5);
+    assert_eq!(lent.state[6..9], [m / p; 3]);
+    assert_eq!(lent.state[9..12], [-2.0 * m / p; 3]);
+}
+
+/// What p and m divide dt·K by, first the two of the rule: then H' in both, H
+/// in both, each in the other's place, H without the 2, and H of the earlier z.
+fn divisors(lent: &Lent, z_new: &[f64], node: usize) -> [[f64; 2]; 6] {
+    let over = |z: f64| 2.0 * (lent.h[node] + z);
+    let (earlier, present) = (over(lent.state[node]), over(lent.state[3 + node]));
+    let new = over(z_new[node]);
+    [
+        [new, present],
+        [new, new],
+        [present, present],
+        [present, new],
+        [new, present / 2.0],
+        [new, earlier],
+    ]
+}
+
+/// U' and V' of a node of T as "Velocity" has them, with any divisors in p and
+/// m. T has a = -100, 0, 100, b = -100, 100, 0 and S = 10,000.
+fn velocity(lent: &Lent, z_new: &[f64], node: usize, [in_p, in_m]: [f64; 2]) -> [u64; 2] {
+    let Parameters { dt, k, f, .. } = lent.p;
+    let (p, m, q) = (1.0 + (dt * k) / in_p, 1.0 - (dt * k) / in_m, (f * dt) / 2.0);
+    let z = &lent.state[3..6];
+    let [z1, z2, z3] = [0, 1, 2].map(|corner| z[corner] + z_new[corner]);
+    let px = 0.0 + ((z1 * -100.0 + z2 * 100.0) + z3 * 0.0);
+    let py = 0.0 + ((z1 * -100.0 + z2 * 0.0) + z3 * 100.0);
+    let slope = |sum: f64| ((9.81 * dt) * sum) / 20_000.0;
+    let (column, new_column) = (lent.h[node] + z[node], lent.h[node] + z_new[node]);
+    let wind = |new: f64, present: f64| (dt * (new / new_column + present / column)) / 2.0;
+    let (wx, wy) = (
+        wind(lent.forcing.wx, lent.clock.wx),
+        wind(lent.forcing.wy, lent.clock.wy),
+    );
+    let (u, v) = (lent.state[6 + node], lent.state[9 + node]);
+    let (rx, ry) = (
+        ((m * u + q * v) - slope(px)) + wx,
+        ((m * v - q * u) - slope(py)) + wy,
+    );
+    let n = p * p + q * q;
+    [(p * rx + q * ry) / n, (p * ry - q * rx) / n].map(f64::to_bits)
+}
+
+/// T with any numbers, but so much water and so small a dt that every z'
+/// passes row 13.
+fn any_t(dice: &mut Dice, k: f64) -> Lent {
+    let mut lent = Lent::mesh_t();
+    let mut any = |low: f64, high: f64| legal(dice, Range { low, high });
+    lent.h.fill_with(|| any(30.0, 34.0));
+    lent.p = Parameters {
+        dt: any(0.125, 1.0),
+        tau: any(0.0, 0.125),
+        k,
+        f: any(-0.001, 0.001),
+    };
+    for (numbers, limit) in lent.state.chunks_mut(3).zip([1.0, 1.0, 20.0, 20.0]) {
+        numbers.fill_with(|| any(-limit, limit));
+    }
+    let mut wind = || any(-0.1, 0.1);
+    (lent.clock.wx, lent.clock.wy) = (wind(), wind());
+    (lent.forcing.wx, lent.forcing.wy) = (wind(), wind());
+    lent
+}
+
+/// z', and U' and V' of each node, those that row 13 refuses among them.
+fn worked_out(lent: &Lent) -> (Vec<f64>, Vec<[u64; 2]>) {
+    let (x, y, tri, h) = (&lent.x, &lent.y, &lent.tri, &lent.h);
+    let mesh = Mesh::lent(x, y, tri, h, &lent.kind, lent.p);
+    let (mut work, mut sums) = (lent.work.clone(), lent.sums.clone());
+    let (state, clock) = (State::of(&lent.state), lent.clock);
+    // A refusal of U' or V' says no more than the values themselves.
+    let _ = new_values(&mut work, &mut sums, &mesh, &state, clock, lent.forcing);
+    let velocity = |node: usize| [work[3 + node], work[6 + node]].map(f64::to_bits);
+    (work[..3].to_vec(), (0..3).map(velocity).collect())
+}
+
+#[test]
+fn friction_on_any_state() {
+    let mut dice = Dice::of(102, 0);
+    let mut told = [0; 6];
+    for _ in 0..300 {
+        let lent = any_t(&mut dice, 0.5);
+        let (z_new, velocities) = worked_out(&lent);
+        for (node, found) in velocities.into_iter().enumerate() {
+            let rules = divisors(&lent, &z_new, node);
+            let other = rules.map(|rule| velocity(&lent, &z_new, node, rule) != found);
+            assert!(!other[0], "{:?}", lent.state);
+            for (count, other) in told.iter_mut().zip(other) {
+                *count += usize::from(other);
+            }
+        }
+    }
+    // A node at rest tells no rule from another.
+    assert!(told[1..].iter().all(|&count| count > 800), "{told:?}");
+}
+
+/// "with K = 0 all bits stay as they were": the earlier rule has H' in both.
+#[test]
+fn without_friction_the_bits_of_the_earlier_rule() {
+    let mut dice = Dice::of(102, 1);
+    for k in [0.0, -0.0].repeat(300) {
+        let lent = any_t(&mut dice, k);
+        let (z_new, velocities) = worked_out(&lent);
+        for (node, found) in velocities.into_iter().enumerate() {
+            let earlier_rule = divisors(&lent, &z_new, node)[1];
+            assert_eq!(velocity(&lent, &z_new, node, earlier_rule), found);
+        }
+    }
 }
