@@ -1,4 +1,5 @@
 pub mod Demand1Proof
 pub mod Demand2Proof
+pub mod FrictionProof
 pub mod RoundTripProof
 pub mod Demand3Proof

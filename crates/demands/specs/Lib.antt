@@ -1,5 +1,6 @@
 pub mod Contracts
 pub mod Demand1
 pub mod Demand2
+pub mod Friction
 pub mod RoundTrip
 pub mod Demand3

@@ -11,7 +11,7 @@ use Rattle.rows.specs.Scan.{accepted}
 use Rattle.rows.specs.Numbers.{within, decimal}
 use Rattle.rows.proofs.ScanLaws.{row-passed, then-next, then-first, then-rest, scan-clean, both-left}
 use Rattle.quantities.specs.declared.Parameters.{Parameters}
-use Rattle.limits.specs.Limits.{isNode}
+use Rattle.limits.specs.Limits.{isNode, row9}
 use Rattle.mesh.specs.Lent.{Mesh, N}
 use Rattle.mesh.specs.Rows.{shapeRows}
 use Rattle.mesh.proofs.ShapedLaws.{shaped, numbers-below}
@@ -27,6 +27,12 @@ pub depth-in : (n : ℕ) (tri : List ℕ) (h : List Float) (kind : List ℕ) (p 
     → within (decimal 1 1) (getD h i nan) (decimal 12000 1) ≡ true
 unfolding nodeRows row8 isNode
 depth-in n tri h kind p e i l = both-left _ (leb (getD kind i 0) 2) (row-passed _ 7 i (scan-clean _ _ (then-first _ _ (then-rest _ _ e)) i l))
+
+-- row 9: dt is in its range
+pub dt-in : (n : ℕ) (tri : List ℕ) (h : List Float) (kind : List ℕ) (p : Parameters) → nodeRows n tri h kind p .number ≡ 0
+    → within (decimal 125 1000) (p .dt) (decimal 60 1) ≡ true
+unfolding nodeRows row9
+dt-in n tri h kind p e = row-passed _ 8 0 (then-first _ _ (then-rest _ _ (then-rest _ _ e)))
 
 -- what both kinds of call ask
 pub mesh-parts : (asked : Answer) (m : Mesh) (p : Parameters) → meshRows asked m p .number ≡ 0

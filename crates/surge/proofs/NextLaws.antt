@@ -1,7 +1,7 @@
 -- A run that can be saved stays one: where a step accepts, what it leaves passes rows 10 and 12, as the next step and a save ask them.
 use Prim.Native.Nat.{ℕ, _<_}
 use mathlib.Core.Path.{_≡_, refl, ap}
-use mathlib.Core.Bool.{Bool, true, false, cond}
+use mathlib.Core.Bool.{Bool, true, false, cond, _&&_}
 use mathlib.Core.List.{List, [], _∷_}
 use native.Mathlib.Omega.{arith}
 use lib.Dec.{lit<}
@@ -27,7 +27,7 @@ use Rattle.nodes.specs.Rows.{meshRows}
 use Rattle.bounds.specs.State.{nodeOf, runRows}
 use Rattle.bounds.proofs.StateLaws.{AcceptedRun, accepted-run, in-bounds}
 use Rattle.passes.specs.Equations.{Given, count, node, rise, flowAt, U′, V′, nextState}
-use Rattle.passes.specs.Row13.{row13}
+use Rattle.passes.specs.Row13.{riseRows, row13}
 use Rattle.passes.specs.Settle.{Rooms, row1Rooms}
 use Rattle.surge.specs.Lent.{Run, windOf}
 use Rattle.surge.specs.Step.{clockRows, givenOf, advance, stepRows}
@@ -63,11 +63,11 @@ speed-passed v refusal i bad = go (inSize 20 v)
     go true e = refl
     go false e = absurd (bad e)
 
-module _ (g : Given) (e : row13 g .number ≡ 0) (i : ℕ) (l : i < count g) where
-  rise-passed : (inSize 30 (rise g i) ≡ true) × (le tenth (node g i .h ⊕ rise g i) ≡ true)
-  unfolding row13 riseRow
-  rise-passed = rise-passed-of _ _ i (scan-clean _ _ (then-first _ _ e) i l)
+pub rise-passed : (g : Given) → riseRows g .number ≡ 0 → (i : ℕ) → i < count g → (inSize 30 (rise g i) ≡ true) × (le tenth (node g i .h ⊕ rise g i) ≡ true)
+unfolding riseRow
+rise-passed g e i l = rise-passed-of _ _ i (scan-clean _ _ e i l)
 
+module _ (g : Given) (e : row13 g .number ≡ 0) (i : ℕ) (l : i < count g) where
   both-passed : flowRow (flowAt g i) i .number ≡ 0
   unfolding row13
   both-passed = scan-clean _ _ (then-rest _ _ e) i l
@@ -90,6 +90,10 @@ z-passed : (c : Node) → inBounds c ≡ true → inSize 30 (c .z) ≡ true
 unfolding inBounds
 z-passed c e = both-right (inSize 30 (c .earlier)) _ (both-left _ _ (both-left _ _ (both-left _ (inSize 20 (c .v)) e)))
 
+pub column-passed : (c : Node) → inBounds c ≡ true → le tenth (c .h ⊕ c .z) ≡ true
+unfolding inBounds
+column-passed c e = both-right (inSize 30 (c .earlier) && inSize 30 (c .z)) _ (both-left _ _ (both-left _ (inSize 20 (c .v)) e))
+
 -- ---- an accepted step
 module _ (m : Mesh) (p : Parameters) (s : Run) (f : Forcing) (r : Rooms) (first : stepRows m p s f r .number ≡ 0) (last : row13 (givenOf m p s f) .number ≡ 0) where
   ran : AcceptedRun (row1Rooms r (N m)) m p (s .state)
@@ -100,10 +104,10 @@ module _ (m : Mesh) (p : Parameters) (s : Run) (f : Forcing) (r : Rooms) (first 
   step-mesh = ran .mesh
 
   next-node : (i : ℕ) → i < N m → inBounds (nodeOf (N m) (m .h) (advance m p s f .state) i) ≡ true
-  unfolding advance nextState
+  unfolding row13 advance nextState
   next-node i l =
       let g = givenOf m p s f in
-      let a = rise-passed g last i l in
+      let a = rise-passed g (then-first _ _ last) i l in
       rw (four-runs (N m) (m .h) (λ j. node g j .z) (rise g) (U′ g) (V′ g) i l)
       (all-five _ (z-passed _ (ran .bounds i l)) (a .0) (a .1) (east-passed g last i l) (north-passed g last i l))
 

@@ -54,6 +54,7 @@ module _ (run : Parameters) (node : Push) where
   unfoldable pub n : Float
   n = p ⊗ p ⊕ q ⊗ q
 
+  -- U' and V' by their m: `flow` takes the one above, and the statement on K = 0 (demands/specs/Friction) also the one that document 01 had
   module _ (m : Float) where
     -- "Rx = ((m·U + q·V) - gx) + wx, Ry = ((m·V - q·U) - gy) + wy"
     unfoldable pub Rx : Float

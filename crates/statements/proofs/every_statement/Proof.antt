@@ -5,6 +5,7 @@ use Rattle.statements.proofs.every_statement.Tie as tie
 use Rattle.statements.proofs.Outcomes.{each-determined, each-call-asks-nothing}
 use Rattle.demands.proofs.Demand1Proof.{demand1}
 use Rattle.demands.proofs.Demand2Proof.{demand2, floats-without-loss}
+use Rattle.demands.proofs.FrictionProof.{same-at-zero-friction}
 use Rattle.demands.proofs.RoundTripProof.{saved-is-loaded, same-text-same-run, loaded-is-saved}
 use Rattle.demands.proofs.Demand3Proof.{demand3-at-surge, any-save-at-surge, opens-cold, own-saves-load, held-runs-save}
 use Rattle.worked.proofs.ComputedProof.{computed-holds}
@@ -21,6 +22,7 @@ every-statement = record {
   demand1 = demand1;
   demand2 = demand2;
   floats-without-loss = floats-without-loss;
+  same-at-zero-friction = same-at-zero-friction;
   saved-is-loaded = saved-is-loaded;
   same-text-same-run = same-text-same-run;
   loaded-is-saved = loaded-is-saved;
