@@ -182,8 +182,11 @@ fn coverage_tells_what_was_reached_and_what_was_missed() {
     }
 }
 
+/// Those that the gate compares with the product.
 #[test]
-fn a_thousand_grid_scripts_reach_every_condition() {
-    let (text, whole) = coverage(Family::Grids, 1, 0, 1_000);
-    assert!(whole, "{text}");
+fn the_first_scripts_of_seed_1_reach_every_condition() {
+    for (family, count) in FAMILIES.into_iter().zip([2_000, 1_000]) {
+        let (text, whole) = coverage(family, 1, 0, count);
+        assert!(whole, "{text}");
+    }
 }
