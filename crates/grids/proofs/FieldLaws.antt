@@ -10,8 +10,8 @@ use lib.Dec.{eqb, leb, ltb}
 use lib.ListN.{length, drop}
 use lib.Seq.{drop-drop}
 use Rattle.rows.proofs.ScanLaws.{both-left, both-right}
-use Rattle.grids.specs.Numbers.{isDigit, onlyDigits, isNumber, numberFrom, numberOf, startsWith, without, isMinus, unsigned, isWhole, beforeFirst, afterFirst, has, wholeDigits, decimals, isDepth, isShort}
-use Rattle.grids.specs.Private.{unspaced, digitsOf, isEnd, most, cappedFrom, capped, GapSeen, DigitsSeen, closed, first, NumberSeen, WholeSeen, sizeOf, DepthSeen}
+use Rattle.grids.specs.Numbers.{isDigit, onlyDigits, isNumber, numberFrom, numberOf, startsWith, without, isMinus, unsigned, isWhole, beforeFirst, afterFirst, has, wholeDigits, decimals, isDepth, isShort, sizeOf}
+use Rattle.grids.specs.Private.{unspaced, digitsOf, isEnd, most, cappedFrom, capped, GapSeen, DigitsSeen, closed, first, NumberSeen, WholeSeen, DepthSeen}
 use Rattle.grids.specs.declared.scanning.Gap.{Gap}
 use Rattle.grids.specs.declared.scanning.Digits.{Digits}
 use Rattle.grids.proofs.LeftLaws.{digit-range, ends-front, starts-front, past-left}

@@ -17,8 +17,8 @@ use Rattle.lists.specs.Private.{upTo}
 use Rattle.lists.proofs.TableLaws.{up-more, up-length}
 use Rattle.grids.specs.Text.{lineOf, fieldOf}
 use Rattle.grids.specs.Numbers.{numberOf, signed, isMinus, unsigned, wholeOf, in32, isShort, thousandthsOf, depthOf, afterFirst}
-use Rattle.grids.specs.Grid.{nodeLineRows, isCorner, triangleLineRows}
-use Rattle.grids.specs.Private.{capped, present, afterLines, its, sizeOf, cornerIn, NodeSeen, TriangleSeen}
+use Rattle.grids.specs.Grid.{nodeLineRows, isCorner, triangleLineRows, cornerIn}
+use Rattle.grids.specs.Private.{capped, present, afterLines, its, NodeSeen, TriangleSeen}
 use Rattle.grids.specs.declared.entries.NodeLine.{NodeLine}
 use Rattle.grids.specs.declared.entries.TriangleLine.{TriangleLine}
 use Rattle.grids.proofs.SignLaws.{size-32}
@@ -46,6 +46,10 @@ module _ {A : Type 0} (i : ℕ) (f : ℕ → A) (l₀ : List A) {l : List A} (fi
 exact : (m : Bool) (v : ℕ) → in32 (signed m v) ≡ true → capped v ≡ v
 exact m v e = omega (arith, size-32 m v e)
 
+-- a whole number that was read is the number itself, where that is in its range
+whole-value : {m : Bool} {v : ℕ} (f : List ℕ) → m ≡ isMinus f → v ≡ capped (numberOf (unsigned f)) → in32 (wholeOf f) ≡ true → signed m v ≡ wholeOf f
+whole-value f minus size range = λ j. signed (minus j) ((size ∙ exact (isMinus f) (numberOf (unsigned f)) range) j)
+
 -- ---- a node's line
 module _ (i : ℕ) {t : List ℕ} {r : NodeLine} {rest : List ℕ} (s : NodeSeen t r rest) (ok : nodeLineRows i (present t) .number ≡ 0) where
   fine : r .fine ≡ true
@@ -66,10 +70,10 @@ module _ (i : ℕ) {t : List ℕ} {r : NodeLine} {rest : List ℕ} (s : NodeSeen
   y-range = both-right (in32 (wholeOf (its t 1))) _ whole-ranges
 
   pub x-value : signed (r .x .minus) (r .x .size) ≡ wholeOf (its t 1)
-  x-value = λ j. signed (s .x-minus fine j) ((s .x-size fine ∙ exact (isMinus (its t 1)) (numberOf (unsigned (its t 1))) x-range) j)
+  x-value = whole-value (its t 1) (s .x-minus fine) (s .x-size fine) x-range
 
   pub y-value : signed (r .y .minus) (r .y .size) ≡ wholeOf (its t 2)
-  y-value = λ j. signed (s .y-minus fine j) ((s .y-size fine ∙ exact (isMinus (its t 2)) (numberOf (unsigned (its t 2))) y-range) j)
+  y-value = whole-value (its t 2) (s .y-minus fine) (s .y-size fine) y-range
 
   pub x-fits : in32 (signed (r .x .minus) (r .x .size)) ≡ true
   x-fits = ap in32 x-value ∙ x-range
@@ -78,7 +82,7 @@ module _ (i : ℕ) {t : List ℕ} {r : NodeLine} {rest : List ℕ} (s : NodeSeen
   y-fits = ap in32 y-value ∙ y-range
 
   pub h-value : ofInt binary64 (signed (r .h .minus) (r .h .size)) ⊘ decimal 1000 1 ≡ depthOf (its t 3)
-  unfolding depthOf thousandthsOf sizeOf
+  unfolding depthOf thousandthsOf
   h-value =
       let short = s .h-short fine ∙ both-right (in32 (wholeOf (its t 1)) && in32 (wholeOf (its t 2))) _ ranges in
       ap (λ (z : ℤ). ofInt binary64 z ⊘ decimal 1000 1) (λ j. signed (s .h-minus fine j) (s .h-size fine short j))
@@ -132,7 +136,7 @@ module _ (k : ℕ) (f : ℕ → ℕ) (l₀ : List ℕ) {l : List ℕ} (filled : 
       to : (m n : ℕ) → m ≡ n → upTo m f l₀ ≡ upTo n f l₀
       to m n e = ap (λ (n : ℕ). upTo n f l₀) e
 
-pub corner-place : (u : List ℕ) (k j : ℕ) → j < 3 → {w : ℕ} → w ≡ numberOf (fieldOf (lineOf u k) (2 + j)) → w - 1 ≡ cornerIn u (3 * k + j)
+pub corner-place : (u : List ℕ) (k j : ℕ) → j < 3 → {w : ℕ} → w ≡ numberOf (fieldOf (lineOf u k) (2 + j)) → w - 1 ≡ cornerIn (lineOf u) (3 * k + j)
 corner-place u k j h e =
     let line : k ≡ (3 * k + j) / 3 = omega arith in
     let place : j ≡ (3 * k + j) % 3 = omega arith in

@@ -16,8 +16,8 @@ use Rattle.lists.specs.Table.{table}
 use Rattle.lists.proofs.TableLaws.{table-same}
 use Rattle.grids.specs.Text.{cut, piecesOf, linesOf, lineOf, fieldOf}
 use Rattle.grids.specs.Numbers.{numberOf, wholeOf, depthOf, afterFirst}
-use Rattle.grids.specs.Grid.{Grid, grid, titleRow, countE, countN, isRoom, countLineRows, nodeLineRows, triangleLineRows, nodeLine, triangleLine, gridAnswer, gridOf, readOut, readOf}
-use Rattle.grids.specs.Private.{present, afterLines, isRoomed, lineCounts, textRows, NodesFilled, cornerIn}
+use Rattle.grids.specs.Grid.{Grid, grid, lengths, lengthsOf, titleRow, isRoom, countLineRows, nodeLineRows, triangleLineRows, countLine, countE, countN, nodeLine, triangleLine, gridRows, gridAnswer, cornerIn, gridOf, readOut, readOf}
+use Rattle.grids.specs.Private.{present, afterLines, NodesFilled}
 use Rattle.grids.proofs.TextLaws.{asked, line-at, lines-add, after-add}
 
 -- ---- the title
@@ -46,9 +46,9 @@ module _ (t : List ℕ) {first : List ℕ} (past : first ≡ afterFirst 10 t) wh
   past-two e = e ∙ ap (afterFirst 10) past
 
 -- the lengths that it asks
-module _ (x y h tri : ℕ) (t : List ℕ) (e : lineCounts x y h tri (lineOf t 1) .number ≡ 0) where
+module _ (x y h tri : ℕ) (t : List ℕ) (e : countLineRows (lengths x y h tri) (countLine t) .number ≡ 0) where
   roomed : (eqb x (countN t) && eqb y (countN t) && eqb h (countN t) && eqb tri (3 * countE t)) ≡ true
-  unfolding lineCounts isRoomed
+  unfolding countLineRows isRoom
   roomed = row-passed _ 32 1 (then-rest _ _ e)
 
   nodes-roomed : (eqb x (countN t) && eqb y (countN t) && eqb h (countN t)) ≡ true
@@ -81,21 +81,17 @@ module _ (t : List ℕ) (n : ℕ) (nodes : n ≡ countN t) where
       ∙ ap (scan (λ k. rows (countN t) k (triangleLine t k))) triangles
 
 -- ---- where a text is accepted: every line is, and what the lines fill is the grid of the text
-pub text-rows : (r : Grid) (t : List ℕ) → textRows (length (r .x)) (length (r .y)) (length (r .h)) (length (r .tri)) t ≡ gridAnswer r t
-unfolding textRows gridAnswer countLineRows lineCounts isRoom isRoomed
-text-rows r t = refl
-
 module _ (r : Grid) (t : List ℕ) (ok : gridAnswer r t .number ≡ 0) where
-  counted : lineCounts (length (r .x)) (length (r .y)) (length (r .h)) (length (r .tri)) (lineOf t 1) .number ≡ 0
-  unfolding gridAnswer countLineRows lineCounts isRoom isRoomed
+  counted : countLineRows (lengthsOf r) (countLine t) .number ≡ 0
+  unfolding gridRows
   counted = then-first _ _ (then-rest _ _ ok)
 
   nodes-accepted : scan (λ i. nodeLineRows i (nodeLine t i)) (countN t) .number ≡ 0
-  unfolding gridAnswer
+  unfolding gridRows
   nodes-accepted = then-first _ _ (then-rest _ _ (then-rest _ _ ok))
 
   triangles-accepted : scan (λ k. triangleLineRows (countN t) k (triangleLine t k)) (countE t) .number ≡ 0
-  unfolding gridAnswer
+  unfolding gridRows
   triangles-accepted = then-rest _ _ (then-rest _ _ (then-rest _ _ ok))
 
   abbrev n : ℕ
@@ -127,14 +123,14 @@ module _ (r : Grid) (t : List ℕ) (ok : gridAnswer r t .number ≡ 0) where
   nodes-table : {A : Type 0} (f : List ℕ → A) → table n (λ i. f (lineOf (afterLines 2 t) i)) ≡ table (countN t) (λ i. f (nodeLine t i))
   nodes-table f = table-same n _ _ (λ i h. ap f (sym (lines-add 2 i t))) ∙ ap (λ (m : ℕ). table m (λ i. f (nodeLine t i))) its-n
 
-  corners-table : table (length (r .tri)) (cornerIn (afterLines n (afterLines 2 t)))
-      ≡ table (3 * countE t) (λ j. numberOf (fieldOf (triangleLine t (j / 3)) (2 + j % 3)) - 1)
+  corners-table : table (length (r .tri)) (cornerIn (lineOf (afterLines n (afterLines 2 t))))
+      ≡ table (3 * countE t) (cornerIn (triangleLine t))
   corners-table =
       table-same (length (r .tri)) _ _ (λ j h. ap (λ (l : List ℕ). numberOf (fieldOf l (2 + j % 3)) - 1) (triangle-at t n its-n (j / 3)))
-      ∙ ap (λ (m : ℕ). table m (λ j. numberOf (fieldOf (triangleLine t (j / 3)) (2 + j % 3)) - 1)) its-tri
+      ∙ ap (λ (m : ℕ). table m (cornerIn (triangleLine t))) its-tri
 
   pub filled-grid : {x y : List ℤ} {h : List Float} {tri rest : List ℕ} → NodesFilled n (afterLines 2 t) x y h rest
-      → tri ≡ table (length (r .tri)) (cornerIn (afterLines n (afterLines 2 t))) → grid x y h tri ≡ gridOf t
+      → tri ≡ table (length (r .tri)) (cornerIn (lineOf (afterLines n (afterLines 2 t)))) → grid x y h tri ≡ gridOf t
   unfolding gridOf
   filled-grid f e = λ i. record {
     x = (f .its-x ∙ nodes-table (λ l. wholeOf (fieldOf l 1))) i;

@@ -10,9 +10,9 @@ use lib.ListN.{length, getD, drop, drop-of-length-le}
 use lib.Seq.{drop-drop}
 use Rattle.rows.proofs.ScanLaws.{both-left, both-right}
 use Rattle.grids.specs.Text.{piecesOf, filled, fieldsOf, exactly}
-use Rattle.grids.specs.Numbers.{numberOf, startsWith, isMinus, unsigned, beforeFirst, afterFirst, isShort}
-use Rattle.grids.specs.Grid.{isThree}
-use Rattle.grids.specs.Private.{unspaced, isEnd, isLineEnd, most, capped, GapSeen, present, first, its, countTests, nodeTests, triangleTests, Seen, NumberSeen, WholeSeen, sizeOf, DepthSeen, LineSeen, CountsSeen, NodeSeen, TriangleSeen}
+use Rattle.grids.specs.Numbers.{numberOf, startsWith, isMinus, unsigned, beforeFirst, afterFirst, isShort, sizeOf}
+use Rattle.grids.specs.Grid.{countTests, nodeTests, isThree, triangleTests}
+use Rattle.grids.specs.Private.{unspaced, isEnd, isLineEnd, most, capped, GapSeen, present, first, its, Seen, NumberSeen, WholeSeen, DepthSeen, LineSeen, CountsSeen, NodeSeen, TriangleSeen}
 use Rattle.grids.specs.declared.scanning.Gap.{Gap}
 use Rattle.grids.specs.declared.entries.Counts.{Counts}
 use Rattle.grids.specs.declared.entries.NodeLine.{NodeLine}

@@ -10,8 +10,8 @@ use Rattle.rows.specs.declared.Answer.{Answer}
 use Rattle.rows.specs.Scan.{row, _then_}
 use Rattle.rows.proofs.ScanLaws.{row-fails, row-passed, then-first, then-stop}
 use Rattle.grids.specs.Numbers.{numberOf, signed, wholeOf, unsigned, isMinus, in32, afterFirst}
-use Rattle.grids.specs.Grid.{nodeLineRows, isCorner, triangleLineRows}
-use Rattle.grids.specs.Private.{most, capped, present, its, NodeSeen, TriangleSeen, CountsSeen, isRoomed, lineCounts}
+use Rattle.grids.specs.Grid.{lengths, isRoom, countLineRows, nodeLineRows, isCorner, triangleLineRows}
+use Rattle.grids.specs.Private.{most, capped, present, its, LineSeen, CountsSeen, NodeSeen, TriangleSeen}
 use Rattle.grids.specs.declared.entries.Counts.{Counts}
 use Rattle.grids.specs.declared.entries.NodeLine.{NodeLine}
 use Rattle.grids.specs.declared.entries.TriangleLine.{TriangleLine}
@@ -61,6 +61,21 @@ capped-above v = go (leb 1 v) refl
 capped-corner : (v : ℕ) → isCorner (capped v) ≡ isCorner v
 capped-corner v = λ i. capped-above v i && capped-within v 65536 (omega arith) i
 
+-- ---- what was read of a field answers as the field does
+number-is : {v : ℕ} (w i : ℕ) → 1 + i < most → v ≡ capped w → eqb v (1 + i) ≡ eqb w (1 + i)
+number-is w i l e = ap (λ (v : ℕ). eqb v (1 + i)) e ∙ capped-is w (1 + i) l
+
+whole-in : {m : Bool} {v : ℕ} (f : List ℕ) → m ≡ isMinus f → v ≡ capped (numberOf (unsigned f)) → in32 (signed m v) ≡ in32 (wholeOf f)
+whole-in f minus size = (λ j. in32 (signed (minus j) (size j))) ∙ capped-32 (isMinus f) (numberOf (unsigned f))
+
+corner-is : {v : ℕ} (w : ℕ) → v ≡ capped w → isCorner v ≡ isCorner w
+corner-is w e = ap isCorner e ∙ capped-corner w
+
+-- where the rows of a line accept, the next line is what stands after it
+pub line-next : {tests : List (List ℕ → Bool)} {t rest : List ℕ} {fine : Bool} → LineSeen tests t fine rest → (place : ℕ) (a : Answer)
+    → (row fine 30 place then a) .number ≡ 0 → rest ≡ afterFirst 10 t
+line-next {fine = fine} s place a e = s .after (row-passed fine 29 place (then-first _ a e))
+
 -- ---- a node's line
 module _ (i : ℕ) {t : List ℕ} {r : NodeLine} {rest : List ℕ} (s : NodeSeen t r rest) (small : i < 2 ^ 60) where
   abbrev pub nodeTested : Answer
@@ -69,26 +84,14 @@ module _ (i : ℕ) {t : List ℕ} {r : NodeLine} {rest : List ℕ} (s : NodeSeen
       then row (eqb (r .number) (1 + i)) 31 (2 + i)
       then row (in32 (signed (r .x .minus) (r .x .size)) && in32 (signed (r .y .minus) (r .y .size)) && r .h .short) 32 (2 + i)
 
-  x-in : r .fine ≡ true → in32 (signed (r .x .minus) (r .x .size)) ≡ in32 (wholeOf (its t 1))
-  x-in f = (λ j. in32 (signed (s .x-minus f j) (s .x-size f j))) ∙ capped-32 (isMinus (its t 1)) (numberOf (unsigned (its t 1)))
-
-  y-in : r .fine ≡ true → in32 (signed (r .y .minus) (r .y .size)) ≡ in32 (wholeOf (its t 2))
-  y-in f = (λ j. in32 (signed (s .y-minus f j) (s .y-size f j))) ∙ capped-32 (isMinus (its t 2)) (numberOf (unsigned (its t 2)))
-
-  number-is : r .fine ≡ true → eqb (r .number) (1 + i) ≡ eqb (numberOf (its t 0)) (1 + i)
-  number-is f = ap (λ (v : ℕ). eqb v (1 + i)) (s .number f) ∙ capped-is (numberOf (its t 0)) (1 + i) (omega arith)
-
   pub node-row : nodeTested ≡ nodeLineRows i (present t)
   unfolding nodeLineRows
   node-row =
       then-same 29 (2 + i)
       (λ f. λ j.
-      row (number-is f j) 31 (2 + i)
-      then row (x-in f j && y-in f j && s .h-short f j) 32 (2 + i))
+      row (number-is (numberOf (its t 0)) i (omega arith) (s .number f) j) 31 (2 + i)
+      then row (whole-in (its t 1) (s .x-minus f) (s .x-size f) j && whole-in (its t 2) (s .y-minus f) (s .y-size f) j && s .h-short f j) 32 (2 + i))
       ∙ rw (s .seen .holds)
-
-  pub node-next : nodeTested .number ≡ 0 → rest ≡ afterFirst 10 t
-  node-next e = s .seen .after (row-passed (r .fine) 29 (2 + i) (then-first _ _ e))
 
 -- ---- a triangle's line
 module _ (n k : ℕ) {t : List ℕ} {r : TriangleLine} {rest : List ℕ} (s : TriangleSeen t r rest) (small : 3 * k < 2 ^ 62) where
@@ -98,27 +101,21 @@ module _ (n k : ℕ) {t : List ℕ} {r : TriangleLine} {rest : List ℕ} (s : Tr
       then row (eqb (r .number) (1 + k)) 31 (2 + n + k)
       then row (isCorner (r .first) && isCorner (r .second) && isCorner (r .third)) 32 (2 + n + k)
 
-  corner-is : {v : ℕ} (w : ℕ) → v ≡ capped w → isCorner v ≡ isCorner w
-  corner-is w e = ap isCorner e ∙ capped-corner w
-
   pub triangle-row : triangleTested ≡ triangleLineRows n k (present t)
   unfolding triangleLineRows
   triangle-row =
       then-same 29 (2 + n + k)
       (λ f. λ j.
-      row ((ap (λ (v : ℕ). eqb v (1 + k)) (s .number f) ∙ capped-is (numberOf (its t 0)) (1 + k) (omega arith)) j) 31 (2 + n + k)
+      row (number-is (numberOf (its t 0)) k (omega arith) (s .number f) j) 31 (2 + n + k)
       then row
       (corner-is (numberOf (its t 2)) (s .first f) j && corner-is (numberOf (its t 3)) (s .second f) j && corner-is (numberOf (its t 4)) (s .third f) j) 32
       (2 + n + k))
       ∙ rw (s .seen .holds)
 
-  pub triangle-next : triangleTested .number ≡ 0 → rest ≡ afterFirst 10 t
-  triangle-next e = s .seen .after (row-passed (r .fine) 29 (2 + n + k) (then-first _ _ e))
-
 -- ---- the second line
 room-is : (x y h tri n e : ℕ) → h < 2 ^ 60 → tri < 2 ^ 62
-    → (eqb x (capped n) && eqb y (capped n) && eqb h (capped n) && eqb tri (3 * capped e)) ≡ isRoomed x y h tri n e
-unfolding isRoomed
+    → (eqb x (capped n) && eqb y (capped n) && eqb h (capped n) && eqb tri (3 * capped e)) ≡ isRoom (lengths x y h tri) n e
+unfolding isRoom
 room-is x y h tri n e few small = nodes (leb most n) refl
   where
     triangles : (c : Bool) → leb most e ≡ c → eqb tri (3 * capped e) ≡ eqb tri (3 * e)
@@ -142,14 +139,11 @@ module _ (x y h tri : ℕ) {t : List ℕ} {r : Counts} {rest : List ℕ} (s : Co
   abbrev pub countsTested : Answer
   countsTested = row (r .fine) 30 1 then row (eqb x (r .n) && eqb y (r .n) && eqb h (r .n) && eqb tri (3 * r .e)) 33 1
 
-  pub counts-row : countsTested ≡ lineCounts x y h tri (present t)
-  unfolding lineCounts
+  pub counts-row : countsTested ≡ countLineRows (lengths x y h tri) (present t)
+  unfolding countLineRows
   counts-row =
       then-same 29 1
       (λ f. ap (λ (b : Bool). row b 33 1)
       ((λ j. eqb x (s .n f j) && eqb y (s .n f j) && eqb h (s .n f j) && eqb tri (3 * s .e f j))
       ∙ room-is x y h tri (numberOf (its t 1)) (numberOf (its t 0)) few small))
       ∙ rw (s .seen .holds)
-
-  pub counts-next : countsTested .number ≡ 0 → rest ≡ afterFirst 10 t
-  counts-next e = s .seen .after (row-passed (r .fine) 29 1 (then-first _ _ e))

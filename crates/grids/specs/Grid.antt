@@ -24,32 +24,48 @@ pub record Grid : Type 0 where
 abbrev pub grid : List ℤ → List ℤ → List Float → List ℕ → Grid
 grid x y h tri = record { x = x; y = y; h = h; tri = tri }
 
+-- how long they are
+pub record Lengths : Type 0 where
+  pub x : ℕ
+  pub y : ℕ
+  pub h : ℕ
+  pub tri : ℕ
+
+abbrev pub lengths : ℕ → ℕ → ℕ → ℕ → Lengths
+lengths x y h tri = record { x = x; y = y; h = h; tri = tri }
+
+abbrev pub lengthsOf : Grid → Lengths
+lengthsOf r = lengths (length (r .x)) (length (r .y)) (length (r .h)) (length (r .tri))
+
 -- ---- what each line is to hold
 -- "a title line": any bytes. | 30 | a missing line | line |
 unfoldable pub titleRow : List ℕ → Answer
 titleRow t = row (ltb 0 (length (linesOf t))) 30 0
 
 -- "a line with E and N"
-abbrev pub countE : List ℕ → ℕ
-countE t = numberOf (fieldOf (lineOf t 1) 0)
-
-abbrev pub countN : List ℕ → ℕ
-countN t = numberOf (fieldOf (lineOf t 1) 1)
+abbrev pub countTests : List (List ℕ → Bool)
+countTests = isNumber ∷ isNumber ∷ []
 
 -- the rooms have the lengths that N and E give
-unfoldable pub isRoom : Grid → ℕ → ℕ → Bool
-isRoom r n e = eqb (length (r .x)) n && eqb (length (r .y)) n && eqb (length (r .h)) n && eqb (length (r .tri)) (3 * e)
+unfoldable pub isRoom : Lengths → ℕ → ℕ → Bool
+isRoom r n e = eqb (r .x) n && eqb (r .y) n && eqb (r .h) n && eqb (r .tri) (3 * e)
 
 -- "30 for a malformed, missing or extra field or a missing line, then on the second line 33 when a room lent hasn't the length its N and E give"
-unfoldable pub countLineRows : Grid → List ℕ → Answer
-countLineRows r t = row (exactly (isNumber ∷ isNumber ∷ []) (fieldsOf (lineOf t 1))) 30 1 then row (isRoom r (countN t) (countE t)) 33 1
+unfoldable pub countLineRows : Lengths → List ℕ → Answer
+countLineRows r line =
+    let f = fieldOf line in
+    row (exactly countTests (fieldsOf line)) 30 1
+    then row (isRoom r (numberOf (f 1)) (numberOf (f 0))) 33 1
 
 -- "node lines (number, x, y, depth)"; "numbers run 1 upwards in order": 30, then "31 for a number out of order, 32 for a coordinate beyond 32 bits
 -- signed, a depth with more than three decimals or nine whole digits". Of node i, from 0, whose line it is.
+abbrev pub nodeTests : List (List ℕ → Bool)
+nodeTests = isNumber ∷ isWhole ∷ isWhole ∷ isDepth ∷ []
+
 unfoldable pub nodeLineRows : ℕ → List ℕ → Answer
 nodeLineRows i line =
     let f = fieldOf line in
-    row (exactly (isNumber ∷ isWhole ∷ isWhole ∷ isDepth ∷ []) (fieldsOf line)) 30 (2 + i)
+    row (exactly nodeTests (fieldsOf line)) 30 (2 + i)
     then row (eqb (numberOf (f 0)) (1 + i)) 31 (2 + i)
     then row (in32 (wholeOf (f 1)) && in32 (wholeOf (f 2)) && isShort (f 3)) 32 (2 + i)
 
@@ -57,17 +73,29 @@ nodeLineRows i line =
 abbrev pub isThree : List ℕ → Bool
 isThree f = isNumber f && eqb (numberOf f) 3
 
+abbrev pub triangleTests : List (List ℕ → Bool)
+triangleTests = isNumber ∷ isThree ∷ isNumber ∷ isNumber ∷ isNumber ∷ []
+
 abbrev pub isCorner : ℕ → Bool
 isCorner v = leb 1 v && leb v 65536
 
 unfoldable pub triangleLineRows : ℕ → ℕ → List ℕ → Answer
 triangleLineRows n k line =
     let f = fieldOf line in
-    row (exactly (isNumber ∷ isThree ∷ isNumber ∷ isNumber ∷ isNumber ∷ []) (fieldsOf line)) 30 (2 + n + k)
+    row (exactly triangleTests (fieldsOf line)) 30 (2 + n + k)
     then row (eqb (numberOf (f 0)) (1 + k)) 31 (2 + n + k)
     then row (isCorner (numberOf (f 2)) && isCorner (numberOf (f 3)) && isCorner (numberOf (f 4))) 32 (2 + n + k)
 
 -- ---- the lines in order: "line by line", "line from 0 as place"
+abbrev pub countLine : List ℕ → List ℕ
+countLine t = lineOf t 1
+
+abbrev pub countE : List ℕ → ℕ
+countE t = numberOf (fieldOf (countLine t) 0)
+
+abbrev pub countN : List ℕ → ℕ
+countN t = numberOf (fieldOf (countLine t) 1)
+
 abbrev pub nodeLine : List ℕ → ℕ → List ℕ
 nodeLine t i = lineOf t (2 + i)
 
@@ -75,25 +103,47 @@ abbrev pub triangleLine : List ℕ → ℕ → List ℕ
 triangleLine t k = lineOf t (2 + countN t + k)
 
 -- "What follows the triangles isn't read."
-unfoldable pub gridAnswer : Grid → List ℕ → Answer
-gridAnswer r t =
+unfoldable pub gridRows : Lengths → List ℕ → Answer
+gridRows r t =
     titleRow t
-    then countLineRows r t
+    then countLineRows r (countLine t)
     then scan (λ i. nodeLineRows i (nodeLine t i)) (countN t)
     then scan (λ k. triangleLineRows (countN t) k (triangleLine t k)) (countE t)
 
--- ---- the mesh of a text: a corner number counts from 1, and a node number from 0
+-- the answer: of the rooms, only their lengths are asked
+abbrev pub gridAnswer : Grid → List ℕ → Answer
+gridAnswer r t = gridRows (lengthsOf r) t
+
+-- ---- the mesh of a text
+module _ (line : ℕ → List ℕ) where
+  -- of node i, of nodes with these lines
+  abbrev pub xIn : ℕ → ℤ
+  xIn i = wholeOf (fieldOf (line i) 1)
+
+  abbrev pub yIn : ℕ → ℤ
+  yIn i = wholeOf (fieldOf (line i) 2)
+
+  abbrev pub hIn : ℕ → Float
+  hIn i = depthOf (fieldOf (line i) 3)
+
+  -- corner j, from 0, of triangles with these lines: a corner number counts from 1, and a node number from 0
+  abbrev pub cornerIn : ℕ → ℕ
+  cornerIn j = numberOf (fieldOf (line (j / 3)) (2 + j % 3)) - 1
+
 unfoldable pub gridOf : List ℕ → Grid
 gridOf t = record {
-  x = table (countN t) (λ i. wholeOf (fieldOf (nodeLine t i) 1));
-  y = table (countN t) (λ i. wholeOf (fieldOf (nodeLine t i) 2));
-  h = table (countN t) (λ i. depthOf (fieldOf (nodeLine t i) 3));
-  tri = table (3 * countE t) (λ j. numberOf (fieldOf (triangleLine t (j / 3)) (2 + j % 3)) - 1);
+  x = table (countN t) (xIn (nodeLine t));
+  y = table (countN t) (yIn (nodeLine t));
+  h = table (countN t) (hIn (nodeLine t));
+  tri = table (3 * countE t) (cornerIn (triangleLine t));
 }
 
 -- "kinds are lent beside it"
+abbrev pub withKinds : Grid → List ℕ → Mesh
+withKinds g kind = mesh (g .x) (g .y) (g .tri) (g .h) kind
+
 abbrev pub gridMesh : List ℕ → List ℕ → Mesh
-gridMesh t kind = let g = gridOf t in mesh (g .x) (g .y) (g .tri) (g .h) kind
+gridMesh t kind = withKinds (gridOf t) kind
 
 -- ---- the reading: "A refused reading leaves the lent rooms untouched."
 pub record ReadOut : Type 0 where

@@ -90,9 +90,12 @@ isDepth f = isNumber (wholeDigits f) && (not (has 46 (unsigned f)) || isNumber (
 unfoldable pub isShort : List ℕ → Bool
 isShort f = leb (length (wholeDigits f)) 9 && leb (length (decimals f)) 3
 
--- the decimals count tenths, hundredths and thousandths
+-- its thousandths, in size and with the sign: the decimals count tenths, hundredths and thousandths
+unfoldable pub sizeOf : List ℕ → ℕ
+sizeOf f = numberOf (wholeDigits f) * 1000 + numberOf (decimals f) * 10 ^ (3 - length (decimals f))
+
 unfoldable pub thousandthsOf : List ℕ → ℤ
-thousandthsOf f = signed (isMinus f) (numberOf (wholeDigits f) * 1000 + numberOf (decimals f) * 10 ^ (3 - length (decimals f)))
+thousandthsOf f = signed (isMinus f) (sizeOf f)
 
 unfoldable pub depthOf : List ℕ → Float
 depthOf f = ofInt binary64 (thousandthsOf f) ⊘ decimal 1000 1

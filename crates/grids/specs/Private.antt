@@ -1,5 +1,5 @@
 -- What is read of a text from one of its bytes on, for laws and for the contracts of private functions. No public contract cites it.
-use Prim.Native.Nat.{ℕ, zero, suc, _+_, _-_, _*_, _/_, _%_, _^_, _≤_, min}
+use Prim.Native.Nat.{ℕ, zero, suc, _+_, _-_, _*_, _^_, _≤_, min}
 use mathlib.Core.Path.{_≡_}
 use mathlib.Core.Bool.{Bool, true, cond, _&&_, _||_}
 use mathlib.Core.List.{List, [], _∷_}
@@ -8,11 +8,9 @@ use lib.ListN.{length, drop}
 use lib.IntN.{ℤ}
 use lib.Ieee.{Float}
 use Rattle.lists.specs.Table.{table}
-use Rattle.rows.specs.declared.Answer.{Answer}
-use Rattle.rows.specs.Scan.{row, _then_, scan}
 use Rattle.grids.specs.Text.{lineOf, fieldsOf, fieldOf, exactly}
-use Rattle.grids.specs.Numbers.{isDigit, isNumber, numberOf, isMinus, unsigned, isWhole, wholeOf, beforeFirst, afterFirst, wholeDigits, decimals, isDepth, isShort, depthOf}
-use Rattle.grids.specs.Grid.{titleRow, countE, countN, nodeLineRows, isThree, triangleLineRows, nodeLine, triangleLine}
+use Rattle.grids.specs.Numbers.{isDigit, isNumber, numberOf, isMinus, unsigned, isWhole, beforeFirst, afterFirst, isDepth, isShort, sizeOf}
+use Rattle.grids.specs.Grid.{countTests, nodeTests, triangleTests, xIn, yIn, hIn}
 use Rattle.grids.specs.declared.scanning.Gap.{Gap}
 use Rattle.grids.specs.declared.scanning.Digits.{Digits}
 use Rattle.grids.specs.declared.fields.Depth.{Depth}
@@ -96,10 +94,6 @@ pub record WholeSeen (t : List ℕ) (fine minus : Bool) (size : ℕ) (rest : Lis
   pub minus-is : fine ≡ true → minus ≡ isMinus (first t)
   pub size-is : fine ≡ true → size ≡ capped (numberOf (unsigned (first t)))
 
--- the size of a depth, in thousandths
-unfoldable pub sizeOf : List ℕ → ℕ
-sizeOf f = numberOf (wholeDigits f) * 1000 + numberOf (decimals f) * 10 ^ (3 - length (decimals f))
-
 pub record DepthSeen (t : List ℕ) (r : Depth) (rest : List ℕ) : Type 0 where
   pub seen : Seen isDepth t (r .fine) rest
   pub minus : r .fine ≡ true → r .minus ≡ isMinus (first t)
@@ -107,43 +101,14 @@ pub record DepthSeen (t : List ℕ) (r : Depth) (rest : List ℕ) : Type 0 where
   pub size : r .fine ≡ true → r .short ≡ true → r .size ≡ sizeOf (first t)
   pub small : r .size ≤ 2 ^ 53
 
--- ---- the rows of the second line, for rooms of these lengths
-unfoldable pub isRoomed : ℕ → ℕ → ℕ → ℕ → ℕ → ℕ → Bool
-isRoomed x y h tri n e = eqb x n && eqb y n && eqb h n && eqb tri (3 * e)
-
-unfoldable pub lineCounts : ℕ → ℕ → ℕ → ℕ → List ℕ → Answer
-lineCounts x y h tri line =
-    row (exactly (isNumber ∷ isNumber ∷ []) (fieldsOf line)) 30 1
-    then row (isRoomed x y h tri (numberOf (fieldOf line 1)) (numberOf (fieldOf line 0))) 33 1
-
--- all rows of a text, for rooms of these lengths
-unfoldable pub textRows : ℕ → ℕ → ℕ → ℕ → List ℕ → Answer
-textRows x y h tri t =
-    titleRow t
-    then lineCounts x y h tri (lineOf t 1)
-    then scan (λ i. nodeLineRows i (nodeLine t i)) (countN t)
-    then scan (λ k. triangleLineRows (countN t) k (triangleLine t k)) (countE t)
-
 -- ---- what the lines from t on fill: n nodes, and the corners of triangles
 pub record NodesFilled (n : ℕ) (t : List ℕ) (x y : List ℤ) (h : List Float) (rest : List ℕ) : Type 0 where
-  pub its-x : x ≡ table n (λ i. wholeOf (fieldOf (lineOf t i) 1))
-  pub its-y : y ≡ table n (λ i. wholeOf (fieldOf (lineOf t i) 2))
-  pub its-h : h ≡ table n (λ i. depthOf (fieldOf (lineOf t i) 3))
+  pub its-x : x ≡ table n (xIn (lineOf t))
+  pub its-y : y ≡ table n (yIn (lineOf t))
+  pub its-h : h ≡ table n (hIn (lineOf t))
   pub after : rest ≡ afterLines n t
 
-abbrev pub cornerIn : List ℕ → ℕ → ℕ
-cornerIn t j = numberOf (fieldOf (lineOf t (j / 3)) (2 + j % 3)) - 1
-
 -- ---- a line was read: t is what was left before it
-abbrev pub countTests : List (List ℕ → Bool)
-countTests = isNumber ∷ isNumber ∷ []
-
-abbrev pub nodeTests : List (List ℕ → Bool)
-nodeTests = isNumber ∷ isWhole ∷ isWhole ∷ isDepth ∷ []
-
-abbrev pub triangleTests : List (List ℕ → Bool)
-triangleTests = isNumber ∷ isThree ∷ isNumber ∷ isNumber ∷ isNumber ∷ []
-
 abbrev pub its : List ℕ → ℕ → List ℕ
 its t j = fieldOf (present t) j
 

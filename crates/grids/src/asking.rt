@@ -10,8 +10,8 @@ ghost use lib.ListN.{drop};
 ghost use Rattle.rows.specs.Scan.{scan};
 ghost use Rattle.grids.specs.Text.{lineOf};
 ghost use Rattle.grids.specs.Numbers.{signed, in32, afterFirst};
-ghost use Rattle.grids.specs.Grid.{nodeLineRows, isCorner, triangleLineRows};
-ghost use Rattle.grids.specs.Private.{present, afterLines, lineCounts, textRows};
+ghost use Rattle.grids.specs.Grid.{lengths, countLineRows, nodeLineRows, isCorner, triangleLineRows, gridRows};
+ghost use Rattle.grids.specs.Private.{present, afterLines};
 
 // What was answered, and where the next line starts.
 struct Asked {
@@ -32,7 +32,7 @@ fn is_in_32(w: Whole) -> bool
 // The second line, lent rooms of these lengths.
 fn counts_row(x: usize, y: usize, h: usize, tri: usize, text: &[u8], from: usize) -> Asked
     requires { ⌜ (h < 2 ^ 60) × (tri < 2 ^ 62) ⌝ }
-    ensures { λ r. ⌜ r .answer ≡ lineCounts x y h tri (present (drop from (now (text .entry)))) ⌝ }
+    ensures { λ r. ⌜ r .answer ≡ countLineRows (lengths x y h tri) (present (drop from (now (text .entry)))) ⌝ }
     ensures { λ r. ⌜ (r .answer .number ≡ 0 → drop (r .next) (now (text .entry)) ≡ afterFirst 10 (drop from (now (text .entry)))) ⌝ }
 {
     let its = entries::counts_at(text, from);
@@ -129,7 +129,7 @@ fn triangle_rows(text: &[u8], from: usize, n: usize, e: usize) -> Answer
 // Rows 30 to 33 of a text, lent rooms of these lengths.
 pub(crate) fn grid_rows(x: usize, y: usize, h: usize, tri: usize, text: &[u8]) -> Answer
     requires { ⌜ (h < 2 ^ 60) × (tri < 2 ^ 62) ⌝ }
-    ensures { λ r. ⌜ r ≡ textRows x y h tri (now (text .entry)) ⌝ }
+    ensures { λ r. ⌜ r ≡ gridRows (lengths x y h tri) (now (text .entry)) ⌝ }
 {
     let title = rows::tested(0 < text.len(), 30, 0);
     let counts = counts_row(x, y, h, tri, text, scanning::past_line(text, 0));

@@ -13,8 +13,8 @@ ghost use Rattle.quantities.specs.Operations.{_⊘_};
 ghost use Rattle.lists.specs.Table.{table};
 ghost use Rattle.grids.specs.Text.{lineOf};
 ghost use Rattle.grids.specs.Numbers.{signed, in32};
-ghost use Rattle.grids.specs.Grid.{grid, nodeLineRows, triangleLineRows, gridAnswer, gridOf};
-ghost use Rattle.grids.specs.Private.{NodesFilled, cornerIn};
+ghost use Rattle.grids.specs.Grid.{grid, nodeLineRows, triangleLineRows, gridAnswer, cornerIn, gridOf};
+ghost use Rattle.grids.specs.Private.{NodesFilled};
 
 fn signed_of(minus: bool, size: u64) -> i64
     requires { ⌜ size ≤ 2 ^ 53 ⌝ }
@@ -68,7 +68,7 @@ fn node_of(corner: u64) -> u16
 fn fill_triangles(tri: &mut [u16], text: &[u8], n: usize, from: usize)
     requires { ⌜ ((k : ℕ) → 3 * k < length (now tri) → triangleLineRows n k (lineOf (drop from (now text)) k) .number ≡ 0) ⌝ }
     requires { ⌜ length (now tri) % 3 ≡ 0 ⌝ }
-    ensures { λ _. ⌜ now (tri .exit) ≡ table (length (now (tri .entry))) (cornerIn (drop from (now (text .entry)))) ⌝ }
+    ensures { λ _. ⌜ now (tri .exit) ≡ table (length (now (tri .entry))) (cornerIn (lineOf (drop from (now (text .entry))))) ⌝ }
 {
     let e = tri.len() / 3;
     let mut at = from;

@@ -14,7 +14,7 @@ use Rattle.rows.specs.Numbers.{decimal}
 use Rattle.rows.proofs.ScanLaws.{both-left}
 use Rattle.quantities.specs.Operations.{_⊘_}
 use Rattle.grids.specs.Numbers.{onlyDigits, isNumber, numberFrom, numberOf, startsWith, without, isMinus, unsigned, signed, isWhole, wholeOf, in32}
-use Rattle.grids.specs.Numbers.{beforeFirst, afterFirst, has, wholeDigits, decimals, isDepth, isShort, thousandthsOf, depthOf}
+use Rattle.grids.specs.Numbers.{beforeFirst, afterFirst, has, wholeDigits, decimals, isDepth, isShort, sizeOf, thousandthsOf, depthOf}
 use Rattle.refusals.specs.Refusals.{numeralOf, numeral}
 use Rattle.gridtext.specs.Written.{sizeText, signedText, wholeText, depthText}
 use Rattle.gridtext.proofs.PieceLaws.{All, all-join, all-so, Above, Word, word-less}
@@ -151,7 +151,7 @@ module _ (z : ℤ) where
   is-short h = rw (parts .0, parts .1, le-leb (length (numeral (size / 1000))) 9 (numeral-short 20 8 (size / 1000) (omega arith)))
 
   pub depth-back : size < 10 ^ 12 → depthOf (depthText z) ≡ ofInt binary64 z ⊘ decimal 1000 1
-  unfolding depthOf thousandthsOf numberFrom
+  unfolding depthOf thousandthsOf sizeOf numberFrom
   depth-back h =
       let tens = div-div-eq-div-mul size in
       let e : size / 1000 * 1000 + numberOf (three size) * 1 ≡ size = omega (arith, tens 10 10, tens 100 10) in

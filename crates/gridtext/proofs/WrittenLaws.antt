@@ -1,5 +1,5 @@
 -- The text that is written of a mesh is accepted, and read as that mesh.
-use Prim.Native.Nat.{ℕ, suc, _+_, _-_, _*_, _/_, _%_, _<_}
+use Prim.Native.Nat.{ℕ, suc, _+_, _*_, _/_, _%_, _<_}
 use mathlib.Core.Path.{_≡_, refl, ap, _∙_}
 use mathlib.Core.Bool.{true}
 use mathlib.Core.List.{List, []}
@@ -11,10 +11,10 @@ use Rattle.rows.specs.Scan.{accepted, row, _then_}
 use Rattle.rows.proofs.ScanLaws.{row-holds, scan-none}
 use Rattle.lists.specs.Table.{table}
 use Rattle.lists.proofs.TableLaws.{length-table, getD-table, table-same}
-use Rattle.grids.specs.Text.{cut, piecesOf, linesOf, lineOf, fieldsOf, fieldOf, exactly}
+use Rattle.grids.specs.Text.{cut, piecesOf, linesOf, lineOf, fieldsOf, exactly}
 use Rattle.grids.specs.Numbers.{numberOf, wholeOf, depthOf}
-use Rattle.grids.specs.Grid.{Grid, grid, titleRow, countE, countN, isRoom, countLineRows, nodeLineRows, isCorner, triangleLineRows}
-use Rattle.grids.specs.Grid.{nodeLine, gridAnswer, gridOf, readOf}
+use Rattle.grids.specs.Grid.{grid, Lengths, lengthsOf, titleRow, countLine, countE, countN, isRoom, countLineRows, nodeLineRows, isCorner, triangleLineRows}
+use Rattle.grids.specs.Grid.{nodeLine, triangleLine, gridRows, cornerIn, gridOf, readOf}
 use Rattle.refusals.specs.Refusals.{numeral}
 use Rattle.gridtext.specs.Written.{sizeText, spaced, linesText, nodeFields, triangleFields, gridLines, gridText}
 use Rattle.gridtext.specs.Written.{Plain, PlainSized, plainGrid, WrittenIsRead}
@@ -70,12 +70,12 @@ module _ (m : Plain) where
     count : (countE text ≡ m .triangles) × (countN text ≡ m .nodes)
     count = rw (written 1) (number-back (m .triangles) (omega arith), number-back (m .nodes) (omega arith))
 
-    corner-back : (j : ℕ) → j < 3 * m .triangles → numberOf (fieldOf (lineOf text (2 + m .nodes + j / 3)) (2 + j % 3)) - 1 ≡ m .corner j
+    corner-back : (j : ℕ) → j < 3 * m .triangles → cornerIn (triangleLine text) j ≡ m .corner j
     corner-back j h =
         let place : 2 + j % 3 ≡ suc (suc (j % 3)) = omega arith in
         let same : 3 * (j / 3) + j % 3 ≡ j = omega arith in
         let small = s .corners j h in
-        rw (triangle-fields (j / 3) (omega arith), place, getD-table 3 (λ c. numeral (1 + m .corner (3 * (j / 3) + c))) (j % 3) [] (omega arith), same)
+        rw (count .1, triangle-fields (j / 3) (omega arith), place, getD-table 3 (λ c. numeral (1 + m .corner (3 * (j / 3) + c))) (j % 3) [] (omega arith), same)
         (rw (number-back (1 + m .corner j) (omega arith)) (omega arith))
 
     grid-back : gridOf text ≡ plainGrid m
@@ -91,7 +91,7 @@ module _ (m : Plain) where
     unfolding titleRow linesText spaced piecesOf cut
     title-row = row-holds 30 0 (lt-ltb 0 (length (linesOf text)) (omega arith))
 
-    count-rows : (r : Grid) → isRoom r (m .nodes) (m .triangles) ≡ true → countLineRows r text ≡ accepted
+    count-rows : (r : Lengths) → isRoom r (m .nodes) (m .triangles) ≡ true → countLineRows r (countLine text) ≡ accepted
     unfolding countLineRows exactly row _then_
     count-rows r h = rw (count .0, count .1, h, written 1, is-number (m .triangles), is-number (m .nodes))
 
@@ -113,8 +113,8 @@ module _ (m : Plain) where
         rw (triangle-fields k h, number-back 3 (omega arith), number-back (1 + k) (omega arith), eq-eqb (1 + k) (1 + k) refl)
         (simp (is-number, is-corner (3 * k + 0) (omega arith), is-corner (3 * k + 1) (omega arith), is-corner (3 * k + 2) (omega arith)))
 
-    answer : (r : Grid) → isRoom r (m .nodes) (m .triangles) ≡ true → gridAnswer r text ≡ accepted
-    unfolding gridAnswer _then_
+    answer : (r : Lengths) → isRoom r (m .nodes) (m .triangles) ≡ true → gridRows r text ≡ accepted
+    unfolding gridRows _then_
     answer r h =
         let all-nodes = scan-none (λ i. nodeLineRows i (nodeLine text i)) (m .nodes) node-row in
         let all-triangles = scan-none (λ k. triangleLineRows (m .nodes) k (lineOf text (2 + m .nodes + k))) (m .triangles) triangle-row in
@@ -122,4 +122,4 @@ module _ (m : Plain) where
 
 pub written-is-read : WrittenIsRead
 unfolding readOf
-written-is-read m r s h = rw (answer m s r h, grid-back m s)
+written-is-read m r s h = rw (answer m s (lengthsOf r) h, grid-back m s)

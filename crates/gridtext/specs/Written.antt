@@ -12,7 +12,7 @@ use Rattle.quantities.specs.Operations.{_⊘_}
 use Rattle.lists.specs.Table.{table}
 use Rattle.refusals.specs.Refusals.{numeral}
 use Rattle.grids.specs.Numbers.{in32}
-use Rattle.grids.specs.Grid.{Grid, grid, isRoom, readOf, readOut}
+use Rattle.grids.specs.Grid.{Grid, grid, lengthsOf, isRoom, readOf, readOut}
 
 -- ---- a field
 -- a depth by its thousandths, with three decimals
@@ -82,4 +82,4 @@ pub record PlainSized (m : Plain) : Type 0 where
 -- The reader does not refuse too much: every such mesh has a text that is accepted, with rooms of its lengths, and read as that mesh.
 abbrev pub WrittenIsRead : Type 0
 WrittenIsRead =
-    (m : Plain) (r : Grid) → PlainSized m → isRoom r (m .nodes) (m .triangles) ≡ true → readOf r (gridText m) ≡ readOut accepted (plainGrid m)
+    (m : Plain) (r : Grid) → PlainSized m → isRoom (lengthsOf r) (m .nodes) (m .triangles) ≡ true → readOf r (gridText m) ≡ readOut accepted (plainGrid m)

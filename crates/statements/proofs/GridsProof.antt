@@ -6,7 +6,7 @@ use borrow.Author.Tests.{eq-eqb, ne-eqb}
 use Rattle.quantities.specs.declared.Parameters.{Parameters}
 use Rattle.mesh.specs.Lent.{Mesh}
 use Rattle.surge.specs.Step.{stepOf}
-use Rattle.grids.specs.Grid.{Grid, gridMesh, readOf}
+use Rattle.grids.specs.Grid.{Grid, withKinds, gridMesh, readOf}
 use Rattle.demands.specs.Demand3.{coldRun}
 use Rattle.demands.proofs.Demand3Proof.{demand3-at-surge, opens-cold}
 use Rattle.statements.specs.Grids.{GridSays, GridDemands, meshLeft, OnTheMesh, RunsOnMeshesRead}
@@ -35,4 +35,4 @@ on-the-mesh t kind p m e = record {
 pub runs-on-meshes-read : RunsOnMeshesRead
 runs-on-meshes-read r t kind p h =
     on-the-mesh t kind p (meshLeft (readOf r t) kind)
-    (ap (λ (g : Grid). Rattle.mesh.specs.Lent.mesh (g .x) (g .y) (g .tri) (g .h) kind) (grid-says r t .accepted h))
+    (ap (λ (g : Grid). withKinds g kind) (grid-says r t .accepted h))

@@ -7,12 +7,12 @@ use mathlib.Core.List.{List}
 use lib.Ieee.{Float}
 use Rattle.quantities.specs.declared.Parameters.{Parameters}
 use Rattle.quantities.specs.declared.Forcing.{Forcing}
-use Rattle.mesh.specs.Lent.{Mesh, mesh}
+use Rattle.mesh.specs.Lent.{Mesh}
 use Rattle.surge.specs.Lent.{Run, run}
 use Rattle.surge.specs.Open.{openOf}
 use Rattle.surge.specs.Step.{stepOf}
 use Rattle.passes.specs.Settle.{Rooms}
-use Rattle.grids.specs.Grid.{Grid, grid, gridAnswer, gridOf, gridMesh, ReadOut, readOut, readOf}
+use Rattle.grids.specs.Grid.{Grid, grid, gridAnswer, gridOf, withKinds, gridMesh, ReadOut, readOut, readOf}
 use Rattle.capi.specs.Numbers as C
 use Rattle.history.specs.History.{Demand3}
 use Rattle.demands.specs.Contracts.{Keeps}
@@ -55,7 +55,7 @@ pub record GridDemands : Type 0 where
 -- ---- "Demands 2 and 3 stand over the mesh so read."
 -- the mesh that a program holds after a reading: the rooms as they were left, beside the kinds lent
 abbrev pub meshLeft : ReadOut → List ℕ → Mesh
-meshLeft o kind = let g = o .rooms in mesh (g .x) (g .y) (g .tri) (g .h) kind
+meshLeft o kind = withKinds (o .rooms) kind
 
 pub record OnTheMesh (t kind : List ℕ) (p : Parameters) (m : Mesh) : Type 0 where
   pub of-the-text : m ≡ gridMesh t kind

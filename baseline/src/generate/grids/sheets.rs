@@ -106,6 +106,16 @@ impl Sheet {
                 numbers.map(|number| whole(dice, i128::from(number))),
             ));
         }
+        let sheet = Sheet::plain(dice, lines, nodes, triangles);
+        Sheet {
+            spaced: dice.one_in(2),
+            ..sheet
+        }
+    }
+
+    /// A sheet of these lines after any title, with rooms to match and single
+    /// spaces.
+    fn plain(dice: &mut Dice, lines: Vec<Vec<Vec<u8>>>, nodes: usize, triangles: usize) -> Sheet {
         Sheet {
             title: title(dice),
             lines,
@@ -113,7 +123,7 @@ impl Sheet {
             triangles,
             rooms: [nodes, nodes, nodes, 3 * triangles],
             end: end(dice),
-            spaced: dice.one_in(2),
+            spaced: false,
         }
     }
 
@@ -135,15 +145,7 @@ impl Sheet {
         };
         let mut lines = vec![fields([triangles.to_string(), nodes.to_string()])];
         lines.extend((1..=more).map(line));
-        Sheet {
-            title: title(dice),
-            lines,
-            nodes,
-            triangles,
-            rooms: [nodes, nodes, nodes, 3 * triangles],
-            end: end(dice),
-            spaced: false,
-        }
+        Sheet::plain(dice, lines, nodes, triangles)
     }
 
     /// The kind of a line.

@@ -1,10 +1,10 @@
-use mathlib.Core.Path.{_≡_, _∙_}
+use mathlib.Core.Path.{_≡_}
 use mathlib.Core.List.{List}
 use Prim.Native.Nat.{ℕ}
 use borrow.Author.Needs.{needs}
 use Rattle.rows.proofs.ScanLaws.{same-number}
 use Rattle.grids.specs.Grid.{Grid, grid, gridAnswer}
-use Rattle.grids.proofs.GridLaws.{text-rows, read-done, read-refused}
+use Rattle.grids.proofs.GridLaws.{read-done, read-refused}
 use Rattle.grids.proofs.read_grid.Statement.{statement}
 use Rattle.grids.proofs.read_grid.Tie as tie
 
@@ -19,7 +19,7 @@ module _ (g : tie.After-grid-rows) where
   lent = let a = start .args in grid (a .x .now) (a .y .now) (a .h .now) (a .tri .now)
 
   answered : g .grid-rows .result ≡ gridAnswer lent t
-  answered = g .grid-rows .ensures ∙ text-rows lent t
+  answered = g .grid-rows .ensures
 
 fill-requires : tie.Need-fill-requires
 fill-requires c κs = let b = c .before .before .before .before in same-number (answered (b .before .before)) (b .if1 .taken)

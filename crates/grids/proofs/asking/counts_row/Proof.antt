@@ -1,6 +1,6 @@
 use mathlib.Core.Path.{_≡_, _∙_}
 use Rattle.rows.proofs.ScanLaws.{same-number}
-use Rattle.grids.proofs.RowLaws.{countsTested, counts-row, counts-next}
+use Rattle.grids.proofs.RowLaws.{countsTested, counts-row, line-next}
 use Rattle.grids.proofs.asking.counts_row.Statement.{statement}
 use Rattle.grids.proofs.asking.counts_row.Tie as tie
 
@@ -15,7 +15,7 @@ returns c =
     let tested : c .first .result ≡ countsTested (a .x) (a .y) (a .h) (a .tri) seen (few .0) (few .1) =
     rw (c .first .ensures, roomed .tested2 .ensures, formed .tested .ensures, formed .before .is-runs .ensures) in (
       tested ∙ counts-row (a .x) (a .y) (a .h) (a .tri) seen (few .0) (few .1),
-      λ e. counts-next (a .x) (a .y) (a .h) (a .tri) seen (few .0) (few .1) (same-number tested e),
+      λ e. line-next (seen .seen) _ _ (same-number tested e),
     )
 
 pub counts-row-spec : {M : Type 1} → statement M

@@ -6,9 +6,8 @@ use lib.ListN.{drop}
 use Rattle.rows.specs.declared.Answer.{Answer}
 use Rattle.rows.specs.Scan.{_then_, scan}
 use Rattle.rows.proofs.ScanLaws.{same-number, stops, goes, then-rest, then-assoc}
-use Rattle.grids.specs.Text.{lineOf}
-use Rattle.grids.specs.Grid.{titleRow, countE, countN, nodeLineRows, triangleLineRows, nodeLine}
-use Rattle.grids.specs.Private.{afterLines, lineCounts, textRows}
+use Rattle.grids.specs.Grid.{lengths, titleRow, countLineRows, nodeLineRows, triangleLineRows, countLine, countE, countN, nodeLine, gridRows}
+use Rattle.grids.specs.Private.{afterLines}
 use Rattle.grids.proofs.TextLaws.{asked}
 use Rattle.grids.proofs.GridLaws.{title-row, second-line, past-two, long-h, long-tri, node-lines, triangle-lines}
 use Rattle.grids.proofs.asking.grid_rows.Statement.{statement}
@@ -25,10 +24,10 @@ module _ (f : tie.After-first) where
   t = start .args .text .now
 
   abbrev second : Answer
-  second = lineCounts (start .args .x) (start .args .y) (start .args .h) (start .args .tri) (lineOf t 1)
+  second = countLineRows (lengths (start .args .x) (start .args .y) (start .args .h) (start .args .tri)) (countLine t)
 
   asked-second : counts .counts-row .result .answer ≡ second
-  asked-second = counts .counts-row .ensures .0 ∙ ap (lineCounts _ _ _ _) (second-line t (counts .before .past-line .ensures))
+  asked-second = counts .counts-row .ensures .0 ∙ ap (countLineRows (lengths _ _ _ _)) (second-line t (counts .before .past-line .ensures))
 
   head : f .first .result ≡ (titleRow t then second)
   head = f .first .ensures ∙ (λ i. (counts .before .before .tested .ensures ∙ title-row t) i then asked-second i)
@@ -47,7 +46,7 @@ module _ (f : tie.After-first) where
     triangles = omega (arith, long-tri _ _ _ _ t accepts)
 
 returns : tie.Need-returns
-unfolding textRows
+unfolding gridRows
 returns c = let f = c .before .before in stops _ (head f) (c .if1 .taken) ∙ then-assoc _ _ _
 
 module _ (n : tie.After-node-rows) where
@@ -64,14 +63,14 @@ module _ (n : tie.After-node-rows) where
       ∙ node-lines (t before) (start before .args .h) (nodes before accepted-head) nodeLineRows
 
 returns-2 : tie.Need-returns-2
-unfolding textRows
+unfolding gridRows
 returns-2 c =
     let n = c .before .before .before in
     let f = before n in
     goes (titleRow (t f) then second f) (same-number (head f) (accepted-head n)) (stops _ (asked-nodes n) (c .if2 .taken)) ∙ then-assoc _ _ _
 
 returns-3 : tie.Need-returns-3
-unfolding textRows
+unfolding gridRows
 returns-3 c =
     let n = c .before .before .before .before in
     let f = before n in

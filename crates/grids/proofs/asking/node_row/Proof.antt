@@ -1,7 +1,7 @@
 use mathlib.Core.Path.{_≡_, _∙_}
 use borrow.Author.Needs.{needs}
 use Rattle.rows.proofs.ScanLaws.{same-number}
-use Rattle.grids.proofs.RowLaws.{nodeTested, node-row, node-next}
+use Rattle.grids.proofs.RowLaws.{nodeTested, node-row, line-next}
 use Rattle.grids.proofs.asking.node_row.Statement.{statement}
 use Rattle.grids.proofs.asking.node_row.Tie as tie
 
@@ -25,7 +25,7 @@ returns c =
       order .tested2 .ensures,
       formed .tested .ensures,
     ) in
-    (tested ∙ node-row i seen few, λ e. node-next i seen few (same-number tested e))
+    (tested ∙ node-row i seen few, λ e. line-next (seen .seen) _ _ (same-number tested e))
 
 pub node-row-spec : {M : Type 1} → statement M
 node-row-spec =

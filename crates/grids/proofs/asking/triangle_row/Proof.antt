@@ -1,7 +1,7 @@
 use mathlib.Core.Path.{_≡_, _∙_}
 use borrow.Author.Needs.{needs}
 use Rattle.rows.proofs.ScanLaws.{same-number}
-use Rattle.grids.proofs.RowLaws.{triangleTested, triangle-row, triangle-next}
+use Rattle.grids.proofs.RowLaws.{triangleTested, triangle-row, line-next}
 use Rattle.grids.proofs.asking.triangle_row.Statement.{statement}
 use Rattle.grids.proofs.asking.triangle_row.Tie as tie
 
@@ -25,7 +25,7 @@ returns c =
       corners .before .is-corner2 .ensures,
       corners .before .before .is-corner .ensures,
     ) in
-    (tested ∙ triangle-row (a .n) (a .k) seen few, λ e. triangle-next (a .n) (a .k) seen few (same-number tested e))
+    (tested ∙ triangle-row (a .n) (a .k) seen few, λ e. line-next (seen .seen) _ _ (same-number tested e))
 
 pub triangle-row-spec : {M : Type 1} → statement M
 triangle-row-spec =

@@ -5,8 +5,8 @@ use borrow.Author.Needs.{needs}
 use lib.ListN.{length, drop}
 use Rattle.lists.specs.Table.{table}
 use Rattle.grids.specs.Text.{lineOf}
-use Rattle.grids.specs.Grid.{Grid, grid, nodeLineRows, triangleLineRows}
-use Rattle.grids.specs.Private.{afterLines, NodesFilled, cornerIn}
+use Rattle.grids.specs.Grid.{Grid, grid, nodeLineRows, triangleLineRows, cornerIn}
+use Rattle.grids.specs.Private.{afterLines, NodesFilled}
 use Rattle.grids.proofs.GridLaws.{past-two, same-y, same-h, by-three, node-ok, triangle-ok, filled-grid}
 use Rattle.grids.proofs.filling.fill.Statement.{statement}
 use Rattle.grids.proofs.filling.fill.Tie as tie
@@ -56,7 +56,7 @@ returns : tie.Need-returns
 returns c =
     let s = c .before .before in
     let f = s .before .before .before .before .before .before in
-    let corners = s .fill-triangles .ensures ∙ ap (λ (u : List ℕ). table (length (lent (p f) .tri)) (cornerIn u)) (rest f) in
+    let corners = s .fill-triangles .ensures ∙ ap (λ (u : List ℕ). table (length (lent (p f) .tri)) (cornerIn (lineOf u))) (rest f) in
     filled-grid (lent (p f)) (t (p f)) (start (p f) .pre) (filled f) corners
 
 pub fill-spec : {M : Type 1} → statement M

@@ -3,9 +3,7 @@ use mathlib.Core.Path.{_≡_, refl, sym, ap, _∙_}
 use mathlib.Core.List.{List}
 use native.Mathlib.Omega.{arith}
 use borrow.Author.Needs.{needs}
-use lib.IntN.{ℤ}
 use lib.ListN.{length, drop}
-use lib.Ieee.{Float}
 use mir.Syntax.{w64}
 use mir.Val.{Fits}
 use Rattle.lists.specs.Table.{table}
@@ -13,7 +11,7 @@ use Rattle.lists.specs.Private.{upTo}
 use Rattle.lists.proofs.TableLaws.{length-table, up-none, up-all}
 use Rattle.grids.specs.Text.{lineOf, fieldOf}
 use Rattle.grids.specs.Numbers.{wholeOf, depthOf}
-use Rattle.grids.specs.Grid.{nodeLineRows}
+use Rattle.grids.specs.Grid.{nodeLineRows, xIn, yIn, hIn}
 use Rattle.grids.specs.Private.{present, afterLines, NodeSeen, NodesFilled}
 use Rattle.grids.specs.declared.entries.NodeLine.{NodeLine}
 use Rattle.grids.proofs.SignLaws.{handed-32}
@@ -21,22 +19,11 @@ use Rattle.grids.proofs.FillLaws.{here, here-accepts, here-after, fill-
 use Rattle.grids.proofs.filling.fill_nodes.Statement.{statement}
 use Rattle.grids.proofs.filling.fill_nodes.Tie as tie
 
--- what stands at node i
-module _ (u : List ℕ) where
-  abbrev xIn : ℕ → ℤ
-  xIn i = wholeOf (fieldOf (lineOf u i) 1)
-
-  abbrev yIn : ℕ → ℤ
-  yIn i = wholeOf (fieldOf (lineOf u i) 2)
-
-  abbrev hIn : ℕ → Float
-  hIn i = depthOf (fieldOf (lineOf u i) 3)
-
 -- i nodes are filled
 abbrev Inv-loop : tie.InvT-loop
 Inv-loop x₀ y₀ h₀ text from n at₀ i₀ x y h at i =
     let u = drop from text in
-    (i ≤ n) × ((drop at text ≡ afterLines i u) × ((x ≡ upTo i (xIn u) x₀) × ((y ≡ upTo i (yIn u) y₀) × (h ≡ upTo i (hIn u) h₀))))
+    (i ≤ n) × ((drop at text ≡ afterLines i u) × ((x ≡ upTo i (xIn (lineOf u)) x₀) × ((y ≡ upTo i (yIn (lineOf u)) y₀) × (h ≡ upTo i (hIn (lineOf u)) h₀))))
 
 abbrev μ-loop : tie.MeasureT-loop
 μ-loop x₀ y₀ h₀ text from n at₀ i₀ x y h at i = n - i
@@ -72,13 +59,13 @@ module _ (k : tie.After-node-at Inv-loop μ-loop) where
   ok = here-accepts i u at nodeLineRows (start .pre .1 i (k .before .loop-test .taken))
 
   within-x : i < length (l .loop .x)
-  within-x = omega (arith, fill-length i (xIn u) (start .args .x .now) (l .loop .inv .1 .1 .0) (l .loop .inv .0), k .before .loop-test .taken)
+  within-x = omega (arith, fill-length i (xIn (lineOf u)) (start .args .x .now) (l .loop .inv .1 .1 .0) (l .loop .inv .0), k .before .loop-test .taken)
 
   within-y : i < length (l .loop .y)
-  within-y = omega (arith, fill-length i (yIn u) (start .args .y .now) (l .loop .inv .1 .1 .1 .0) (omega (arith, start .pre .0 .0)), k .before .loop-test .taken, start .pre .0 .0)
+  within-y = omega (arith, fill-length i (yIn (lineOf u)) (start .args .y .now) (l .loop .inv .1 .1 .1 .0) (omega (arith, start .pre .0 .0)), k .before .loop-test .taken, start .pre .0 .0)
 
   within-h : i < length (l .loop .h)
-  within-h = omega (arith, fill-length i (hIn u) (start .args .h .now) (l .loop .inv .1 .1 .1 .1) (omega (arith, start .pre .0 .1)), k .before .loop-test .taken, start .pre .0 .1)
+  within-h = omega (arith, fill-length i (hIn (lineOf u)) (start .args .h .now) (l .loop .inv .1 .1 .1 .1) (omega (arith, start .pre .0 .1)), k .before .loop-test .taken, start .pre .0 .1)
 
   -- the place of an element, in bytes
   offset-x : Fits w64 (i * 4)
@@ -102,10 +89,10 @@ loop-again c =
       (
         here-after (i k) (u k) (at k) (node-after (i k) (seen k) (ok k)),
         (
-          fill-more (i k) (xIn (u k)) (a .x .now) (v .loop .inv .1 .1 .0) turn (x ∙ ap (λ (t : List ℕ). wholeOf (fieldOf t 1)) line),
+          fill-more (i k) (xIn (lineOf (u k))) (a .x .now) (v .loop .inv .1 .1 .0) turn (x ∙ ap (λ (t : List ℕ). wholeOf (fieldOf t 1)) line),
           (
-            fill-more (i k) (yIn (u k)) (a .y .now) (v .loop .inv .1 .1 .1 .0) (omega (arith, turn, lengths .0)) (y ∙ ap (λ (t : List ℕ). wholeOf (fieldOf t 2)) line),
-            fill-more (i k) (hIn (u k)) (a .h .now) (v .loop .inv .1 .1 .1 .1) (omega (arith, turn, lengths .1)) (h ∙ ap (λ (t : List ℕ). depthOf (fieldOf t 3)) line),
+            fill-more (i k) (yIn (lineOf (u k))) (a .y .now) (v .loop .inv .1 .1 .1 .0) (omega (arith, turn, lengths .0)) (y ∙ ap (λ (t : List ℕ). wholeOf (fieldOf t 2)) line),
+            fill-more (i k) (hIn (lineOf (u k))) (a .h .now) (v .loop .inv .1 .1 .1 .1) (omega (arith, turn, lengths .1)) (h ∙ ap (λ (t : List ℕ). depthOf (fieldOf t 3)) line),
           ),
         ),
       ),
@@ -131,9 +118,9 @@ module _ (c : tie.After-loop Inv-loop μ-loop) where
 
   filled : NodesFilled (length (begin .args .x .now)) lines (e .loop .x) (e .loop .y) (e .loop .h) (drop (e .loop .at) (begin .args .text .now))
   filled = record {
-    its-x = whole (xIn lines) (begin .args .x .now) refl (e .loop .inv .1 .1 .0);
-    its-y = whole (yIn lines) (begin .args .y .now) (begin .pre .0 .0) (e .loop .inv .1 .1 .1 .0);
-    its-h = whole (hIn lines) (begin .args .h .now) (begin .pre .0 .1) (e .loop .inv .1 .1 .1 .1);
+    its-x = whole (xIn (lineOf lines)) (begin .args .x .now) refl (e .loop .inv .1 .1 .0);
+    its-y = whole (yIn (lineOf lines)) (begin .args .y .now) (begin .pre .0 .0) (e .loop .inv .1 .1 .1 .0);
+    its-h = whole (hIn (lineOf lines)) (begin .args .h .now) (begin .pre .0 .1) (e .loop .inv .1 .1 .1 .1);
     after = e .loop .inv .1 .0 ∙ ap (λ (k : ℕ). afterLines k lines) all;
   }
 

@@ -10,8 +10,8 @@ use Rattle.lists.specs.Private.{upTo}
 use Rattle.lists.proofs.TableLaws.{length-table, up-none, up-all}
 use Rattle.grids.specs.Text.{lineOf, fieldOf}
 use Rattle.grids.specs.Numbers.{numberOf}
-use Rattle.grids.specs.Grid.{triangleLineRows}
-use Rattle.grids.specs.Private.{present, afterLines, TriangleSeen, cornerIn}
+use Rattle.grids.specs.Grid.{triangleLineRows, cornerIn}
+use Rattle.grids.specs.Private.{present, afterLines, TriangleSeen}
 use Rattle.grids.specs.declared.entries.TriangleLine.{TriangleLine}
 use Rattle.grids.proofs.FillLaws.{here, here-accepts, here-after, fill-length, three-more, corner-place, first-corner, second-corner, third-corner, triangle-after}
 use Rattle.grids.proofs.filling.fill_triangles.Statement.{statement}
@@ -21,7 +21,7 @@ use Rattle.grids.proofs.filling.fill_triangles.Tie as tie
 abbrev Inv-loop : tie.InvT-loop
 Inv-loop tri₀ text n from e at₀ k₀ tri at k =
     let u = drop from text in
-    (k ≤ e) × ((drop at text ≡ afterLines k u) × (tri ≡ upTo (3 * k) (cornerIn u) tri₀))
+    (k ≤ e) × ((drop at text ≡ afterLines k u) × (tri ≡ upTo (3 * k) (cornerIn (lineOf u)) tri₀))
 
 abbrev μ-loop : tie.MeasureT-loop
 μ-loop tri₀ text n from e at₀ k₀ tri at k = e - k
@@ -60,7 +60,7 @@ module _ (s : tie.After-triangle-at Inv-loop μ-loop) where
   ok = here-accepts k u at (triangleLineRows (start .args .n)) (start .pre .0 k (omega (arith, turn)))
 
   within : 3 * k + 2 < length (l .loop .tri)
-  within = omega (arith, fill-length (3 * k) (cornerIn u) (start .args .tri .now) (l .loop .inv .1 .1) (omega (arith, turn)), turn)
+  within = omega (arith, fill-length (3 * k) (cornerIn (lineOf u)) (start .args .tri .now) (l .loop .inv .1 .1) (omega (arith, turn)), turn)
 
   -- the place of each corner, and where it stands in bytes
   offset : (j : ℕ) → j ≤ 2 → Fits w64 ((3 * k + j) * 2)
@@ -82,7 +82,7 @@ loop-again c =
       omega (arith, s .before .loop-test .taken),
       (
         here-after (k s) (u s) (at s) (triangle-after n (k s) (seen s) (ok s)),
-        three-more (k s) (cornerIn (u s)) (start s .args .tri .now) (l s .loop .inv .1 .1) (turn s)
+        three-more (k s) (cornerIn (lineOf (u s))) (start s .args .tri .now) (l s .loop .inv .1 .1) (turn s)
             (c .before .before .node-of .ensures ∙ corner-place (u s) (k s) 0 (omega arith) (first-corner n (k s) (seen s) (ok s) .0 ∙ its 2))
             (c .before .node-of2 .ensures ∙ corner-place (u s) (k s) 1 (omega arith) (second-corner n (k s) (seen s) (ok s) .0 ∙ its 3))
             (c .node-of3 .ensures ∙ corner-place (u s) (k s) 2 (omega arith) (third-corner n (k s) (seen s) (ok s) .0 ∙ its 4)),
@@ -93,7 +93,7 @@ returns : tie.Need-returns Inv-loop μ-loop
 returns c =
     let e = c .before in
     let a = e .before .before .before .args in
-    let f = cornerIn (drop (a .from) (a .text .now)) in
+    let f = cornerIn (lineOf (drop (a .from) (a .text .now))) in
     let all : 3 * e .loop .k ≡ length (a .tri .now) = omega (arith, e .before .before .before .pre .1) in
     e .loop .inv .1 .1 ∙ ap (λ (n : ℕ). upTo n f (a .tri .now)) all ∙ up-all f (a .tri .now)
 
