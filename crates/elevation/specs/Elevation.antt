@@ -11,7 +11,7 @@ use Rattle.quantities.specs.declared.Node.{Node}
 use Rattle.quantities.specs.declared.Sides.{Sides}
 use Rattle.quantities.specs.declared.Shares.{Shares}
 use Rattle.triangle.specs.declared.Means.{Means}
-use Rattle.triangle.specs.Triangle.{z*, means}
+use Rattle.triangle.specs.Triangle.{z*}
 
 module _ (run : Parameters) (w : Wind) (m : Means) (D : Float) where
   open Parameters run using (dt, tau, k as K, f)
@@ -34,9 +34,8 @@ module _ (m : Means) (D : Float) where
   corner Jx Jy aj bj = (Jx ⊗ bj ⊕ Jy ⊗ aj) ⊘ two ⊖ ((g ⊗ hb) ⊗ (Gx ⊗ bj ⊕ Gy ⊗ aj)) ⊘ (two ⊗ D)
 
 -- the one record, "used for three corners"
-unfoldable pub shares : Parameters → Wind → Node → Node → Node → Sides → Shares
-shares run w n1 n2 n3 s =
-    let m = means n1 n2 n3 s in
+unfoldable pub shares : Parameters → Wind → Means → Sides → Shares
+shares run w m s =
     let at = corner m (s .d) (Jx run w m (s .d)) (Jy run w m (s .d)) in
     record { r1 = at (s .a1) (s .b1); r2 = at (s .a2) (s .b2); r3 = at (s .a3) (s .b3) }
 

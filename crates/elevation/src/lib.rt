@@ -29,10 +29,10 @@ fn corner(m: Means, d: f64, jx: f64, jy: f64, a: f64, b: f64) -> f64
     (jx * b + jy * a) / 2.0 - ((G * m.hb) * (m.gx * b + m.gy * a)) / (2.0 * d)
 }
 
-pub fn shares(run: Parameters, w: Wind, n1: Node, n2: Node, n3: Node, s: Sides) -> Shares
-    ensures { λ r. ⌜ r ≡ shares run w n1 n2 n3 s ⌝ }
+// The one record of the triangle serves its three corners.
+pub fn shares(run: Parameters, w: Wind, m: Means, s: Sides) -> Shares
+    ensures { λ r. ⌜ r ≡ shares run w m s ⌝ }
 {
-    let m = triangle::means_of(n1, n2, n3, s);
     let x = jx(run, w, m, s.d);
     let y = jy(run, w, m, s.d);
     Shares {

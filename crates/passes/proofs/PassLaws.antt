@@ -23,7 +23,8 @@ use Rattle.quantities.specs.declared.Flow.{Flow}
 use Rattle.quantities.specs.declared.Sides.{Sides}
 use Rattle.quantities.specs.declared.Shares.{Shares}
 use Rattle.quantities.specs.Operations.{_⊕_}
-use Rattle.triangle.specs.Triangle.{slope}
+use Rattle.triangle.specs.declared.Means.{Means}
+use Rattle.triangle.specs.Triangle.{slope, means}
 use Rattle.elevation.specs.Elevation.{shares, riseOf}
 use Rattle.geometry.specs.declared.Places.{Places}
 use Rattle.geometry.specs.declared.Corners.{Corners}
@@ -37,7 +38,7 @@ use Rattle.mesh.specs.Private.{placesOf, Sound}
 use Rattle.mesh.proofs.SideLaws.{sides-read}
 use Rattle.passes.specs.declared.velocities.Slope.{Slope}
 use Rattle.velocity.specs.Velocity.{flowOf, pushOf}
-use Rattle.passes.specs.Equations.{Given, count, node, kindOf, cornersOf, floatsAt, floating, threeOf, sharesAt, R, S, floatS, rise, both, slopeX, slopeY, Px, Py, flowAt, U′, V′}
+use Rattle.passes.specs.Equations.{Given, count, node, kindOf, cornersOf, floatsAt, floating, threeOf, meansAt, sharesAt, R, S, floatS, rise, both, slopeX, slopeY, Px, Py, flowAt, U′, V′}
 use Rattle.outcomes.specs.Outcomes.{riseRow, flowRow}
 use Rattle.passes.specs.Row13.{riseRows, flowRows}
 use Rattle.passes.specs.Private.{Fits, zero, sumRoom, riseRoom, slopeRoom, flowRoom, bothOf, slopeOf}
@@ -92,14 +93,18 @@ module _ (g : Given) (z : Fits g) where
         unfolding area
         its-area es ed = ap alike (ed ∙ ap (λ (s : WholeSides). counted (nearD s)) (es ∙ its-sides) ∙ near-count _ (sound .small) (sound .turns))
 
-        pub its-shares : {v : Shares}
-            → v ≡ shares (g .p) (g .wind) (node g (c .n1)) (node g (c .n2)) (node g (c .n3)) (nearFloats (sidesAt q)) → threeOf v ≡ sharesAt g t
-        unfolding sharesAt
-        its-shares ev =
-            ap threeOf ev
-            ∙ (λ i.
-            let k = ec i in
-            threeOf (shares (g .p) (g .wind) (node g (k .first)) (node g (k .second)) (node g (k .third)) (its-floats i)))
+        module _ {s : Sides} {m : Means} (es : s ≡ nearFloats (sidesAt q)) (em : m ≡ means (node g (c .n1)) (node g (c .n2)) (node g (c .n3)) s) where
+          its-means : m ≡ meansAt g t
+          unfolding meansAt
+          its-means =
+              em
+              ∙ (λ i.
+              let k = ec i in
+              means (node g (k .first)) (node g (k .second)) (node g (k .third)) ((es ∙ its-floats) i))
+
+          pub its-shares : {v : Shares} → v ≡ shares (g .p) (g .wind) m s → threeOf v ≡ sharesAt g t
+          unfolding sharesAt
+          its-shares ev = ap threeOf ev ∙ (λ i. threeOf (shares (g .p) (g .wind) (its-means i) ((es ∙ its-floats) i)))
 
     -- z + z' of a corner, and what the triangle adds to Px and to Py
     both-read : {work : List Float} (fs : List (ℕ → Float)) (i : ℕ) → i < count g → work ≡ runsOf (count g) (rise g ∷ fs)

@@ -16,7 +16,8 @@ use Rattle.quantities.specs.declared.Shares.{Shares}
 use Rattle.quantities.specs.declared.Push.{Push}
 use Rattle.quantities.specs.declared.Flow.{Flow}
 use Rattle.quantities.specs.Operations.{_⊕_}
-use Rattle.triangle.specs.Triangle.{slope}
+use Rattle.triangle.specs.declared.Means.{Means}
+use Rattle.triangle.specs.Triangle.{slope, means}
 use Rattle.elevation.specs.Elevation.{shares, riseOf}
 use Rattle.velocity.specs.Velocity.{flowOf, pushOf}
 use Rattle.geometry.specs.Geometry.{floats}
@@ -61,11 +62,15 @@ module _ (g : Given) where
   abbrev pub floatsAt : ℕ → Sides
   floatsAt t = floats (sides (g .mesh .x) (g .mesh .y) (cornersOf t))
 
-  -- what the corners of triangle t receive
-  unfoldable pub sharesAt : ℕ → Three Float
-  sharesAt t =
+  -- the record of triangle t
+  unfoldable pub meansAt : ℕ → Means
+  meansAt t =
       let c = cornersOf t in
-      threeOf (shares (g .p) (g .wind) (node (c .first)) (node (c .second)) (node (c .third)) (floatsAt t))
+      means (node (c .first)) (node (c .second)) (node (c .third)) (floatsAt t)
+
+  -- what its corners receive
+  unfoldable pub sharesAt : ℕ → Three Float
+  sharesAt t = threeOf (shares (g .p) (g .wind) (meansAt t) (floatsAt t))
 
   -- "R of a node starts at +0 and adds its corner values by ascending triangle number."
   abbrev pub R : ℕ → Float

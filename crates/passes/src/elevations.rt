@@ -3,20 +3,19 @@ use super::reading;
 use super::state;
 use super::sums;
 use geometry::Corners;
-use geometry::Places;
 use lists::slices;
 use quantities::Forcing;
 use quantities::Parameters;
-use quantities::Shares;
+use quantities::Sides;
 use quantities::Wind;
 use rows::Answer;
+use triangle::Means;
 ghost use mathlib.Core.Path.{_≡_};
 ghost use Prim.Native.Nat.{_*_};
 ghost use lib.ListN.{length};
 ghost use Rattle.lists.specs.Table.{table};
 ghost use Rattle.lists.specs.Private.{Below};
-ghost use Rattle.elevation.specs.Elevation.{shares};
-ghost use Rattle.geometry.specs.Geometry.{sidesAt, nearFloats};
+ghost use Rattle.triangle.specs.Triangle.{means};
 ghost use Rattle.geometry.specs.Private.{nodesOf};
 ghost use Rattle.mesh.specs.Lent.{mesh};
 ghost use Rattle.bounds.specs.State.{stateRuns, nodeOf};
@@ -25,23 +24,15 @@ ghost use Rattle.passes.specs.Row13.{riseRows};
 ghost use Rattle.passes.specs.Settle.{workRuns};
 ghost use Rattle.passes.specs.Private.{Fits, sumRoom, riseRoom};
 
-// What the corners of a triangle receive.
-fn shares_of(
-    p: Parameters,
-    w: Wind,
-    c: Corners,
-    q: Places,
-    n: usize,
-    h: &[f64],
-    state: &[f64],
-) -> Shares
+// The record of a triangle.
+fn means_at(n: usize, h: &[f64], state: &[f64], c: Corners, s: Sides) -> Means
     requires { ⌜ (Below (nodesOf c) n) × (length (now h) ≡ n) × (length (now state) ≡ stateRuns * n) ⌝ }
-    ensures { λ r. ⌜ r ≡ shares p w (nodeOf n (now (h .entry)) (now (state .entry)) (c .n1)) (nodeOf n (now (h .entry)) (now (state .entry)) (c .n2)) (nodeOf n (now (h .entry)) (now (state .entry)) (c .n3)) (nearFloats (sidesAt q)) ⌝ }
+    ensures { λ r. ⌜ r ≡ means (nodeOf n (now (h .entry)) (now (state .entry)) (c .n1)) (nodeOf n (now (h .entry)) (now (state .entry)) (c .n2)) (nodeOf n (now (h .entry)) (now (state .entry)) (c .n3)) s ⌝ }
 {
     let n1 = state::node_of(n, h, state, c.n1);
     let n2 = state::node_of(n, h, state, c.n2);
     let n3 = state::node_of(n, h, state, c.n3);
-    elevation::shares(p, w, n1, n2, n3, geometry::floats_of(q))
+    triangle::means_of(n1, n2, n3, s)
 }
 
 // R of every node in the first run of the work room, and S in the sums. What is lent may hold anything, and each sum starts at zero.
@@ -71,7 +62,9 @@ pub(crate) fn assemble(
     for t in 0..e {
         let c = mesh::reading::corners_at(tri, t);
         let q = reading::places_at(x, y, c);
-        sums::spread(work, 0 * n, c, shares_of(p, w, c, q, n, h, state));
+        let s = geometry::floats_of(q);
+        let m = means_at(n, h, state, c, s);
+        sums::spread(work, 0 * n, c, elevation::shares(p, w, m, s));
         sums::spread_area(sums, c, geometry::area_of(geometry::sides_of(q)));
     }
 }

@@ -21,7 +21,7 @@ use Rattle.legs.specs.Legs.{isLeg, row6}
 use Rattle.nodes.specs.Rows.{isNamed, row7, row8, nodeRows, meshRows, openRows}
 use Rattle.surge.specs.Open.{openAnswer, openOf}
 use Rattle.bounds.specs.State.{row10, runRows}
-use Rattle.passes.specs.Equations.{sharesAt, rise, slopeX, slopeY, flowAt, nextState}
+use Rattle.passes.specs.Equations.{meansAt, sharesAt, rise, slopeX, slopeY, flowAt, nextState}
 use Rattle.passes.specs.Row13.{row13}
 use Rattle.surge.specs.Step.{advance, clockRows, stepRows, stepsTo, stepOf}
 use Rattle.saves.specs.Lines.{startOf}
@@ -45,7 +45,7 @@ unfolding z* Hi qx qy mean slope means Jx Jy corner shares L z′ H H′ r p m q
 the-formulas = tt
 
 unfoldable pub the-equations : Unit {0}
-unfolding sides area floats riseOf flowOf sharesAt rise slopeX slopeY flowAt nextState riseRow flowRow row13 advance
+unfolding sides area floats riseOf flowOf meansAt sharesAt rise slopeX slopeY flowAt nextState riseRow flowRow row13 advance
 the-equations = tt
 
 unfoldable pub the-frames : Unit {0}

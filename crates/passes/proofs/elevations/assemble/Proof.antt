@@ -59,8 +59,8 @@ places-at-requires c κs =
     let z = fits l (start l .args .f) in
     (z .shape .sized .y, inside _ z _ (c .before .loop-test .taken) (corner c))
 
-shares-of-requires : tie.Need-shares-of-requires Inv-loop μ-loop
-shares-of-requires c κs =
+means-at-requires : tie.Need-means-at-requires Inv-loop μ-loop
+means-at-requires c κs =
     let k = c .before .before in
     let l = k .before .before in
     let z = fits l (start l .args .f) in
@@ -68,12 +68,12 @@ shares-of-requires c κs =
 
 spread-requires : tie.Need-spread-requires Inv-loop μ-loop
 spread-requires c κs =
-    let k = c .before .before .before in
+    let k = c .before .before .before .before .before in
     let l = k .before .before in
     rw (long l) (in-run 0 workRuns (lit< tt) (inside _ (fits l (start l .args .f)) _ (k .before .loop-test .taken) (corner k)))
 
 abbrev back : tie.After-area-of Inv-loop μ-loop → tie.After-places-at Inv-loop μ-loop
-back c = c .before .before .before .before .before .before .before .before
+back c = c .before .before .before .before .before .before .before .before .before .before
 
 spread-area-requires : tie.Need-spread-area-requires Inv-loop μ-loop
 spread-area-requires c κs =
@@ -91,13 +91,15 @@ loop-again c =
     let q = back d in
     let k = q .before in
     let l = k .before .before in
+    let first = d .before .before .before .before .before in
+    let m = first .before .before .before in
     let h = k .before .loop-test .taken in (
       omega (arith, h),
       λ f.
           let z = fits l f in
           let inv = l .loop .inv .1 f in (
-            d .before .before .before .before .before .spread .ensures
-                ∙ sum-more _ z _ h (corner k) (its-shares _ z _ h (corner k) (q .places-at .ensures) (d .before .before .before .before .before .before .shares-of .ensures)) (inv .0),
+            first .spread .ensures
+                ∙ sum-more _ z _ h (corner k) (its-shares _ z _ h (corner k) (q .places-at .ensures) (m .before .floats-of .ensures) (m .means-at .ensures) (first .before .shares .ensures)) (inv .0),
             c .before .before .spread-area .ensures
                 ∙ area-more _ z _ h (corner k) (its-area _ z _ h (corner k) (q .places-at .ensures) (d .before .sides-of .ensures) (d .area-of .ensures)) (inv .1),
           ),
@@ -115,8 +117,7 @@ returns c =
 pub assemble-spec : {M : Type 1} → statement M
 assemble-spec =
     tie.close
-    (tie.spec Inv-loop μ-loop (λ c κs. tt) (λ c κs. tt) loop-holds (λ c κs. tt) places-at-requires (λ c. search needs) shares-of-requires
-    spread-requires (λ c κs. tt) (λ c κs. tt) spread-area-requires
+    (tie.spec Inv-loop μ-loop (λ c κs. tt) (λ c κs. tt) loop-holds (λ c κs. tt) places-at-requires (λ c κs. tt) means-at-requires (λ c. search needs) (λ c κs. tt) spread-requires (λ c κs. tt) (λ c κs. tt) spread-area-requires
     (λ c. let k = back (c .before .before .before) .before in record { fits = omega (arith, k .before .loop-test .taken, fits (k .before .before) (start (k .before .before) .args .f) .shape .sized .most-triangles) })
     (λ c. omega arith) loop-again (λ c. let l = c .before in long l ∙ sym (start l .pre .1 .0))
     (λ c. let l = c .before in sums-long l ∙ sym (start l .pre .1 .1)) returns)
