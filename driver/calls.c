@@ -7,7 +7,7 @@
 /* Each slice of the script as the two arguments that a call takes for it. */
 #define LENT(s, name) (s)->slices[name].at, (s)->slices[name].count
 #define MESH(s) LENT(s, X), LENT(s, Y), LENT(s, TRI), LENT(s, H), LENT(s, KIND)
-#define PARAMETERS(s) (s)->dt, (s)->tau, (s)->k, (s)->f
+#define PARAMETERS(s) (s)->dt, (s)->tau, (s)->k, (s)->f, (s)->advection
 #define CLOCK(s) &(s)->step, &(s)->wx, &(s)->wy
 
 int script_begin(struct script *s, FILE *out)
@@ -33,6 +33,7 @@ int script_begin(struct script *s, FILE *out)
     for (i = 0; i < SLICES; i++)
         fine = slice_begin(&s->slices[i], table[i].name, table[i].form) && fine;
     s->dt = s->tau = s->k = s->f = 0.0;
+    s->advection = 0;
     s->step = 0;
     s->wx = s->wy = 0.0;
     s->elevation = s->wx_new = s->wy_new = 0.0;

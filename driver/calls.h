@@ -13,6 +13,7 @@ struct script {
     struct slice slices[SLICES];
     /* the parameters */
     double dt, tau, k, f;
+    uint8_t advection;
     /* the clock */
     uint32_t step;
     double wx, wy;

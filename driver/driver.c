@@ -59,6 +59,15 @@ static int take_element(struct words *w, enum form form, union element *to)
     return next_word(w, &word) && element_of(word, form, to);
 }
 
+static int take_u8(struct words *w, uint8_t *to)
+{
+    union element e;
+    if (!take_element(w, UNSIGNED_8, &e))
+        return 0;
+    *to = e.u8;
+    return 1;
+}
+
 /* ---- setting */
 
 static enum outcome add(struct script *s, struct words *w)
@@ -121,7 +130,8 @@ static enum outcome keep(struct script *s, struct words *w)
 
 static enum outcome parameters(struct script *s, struct words *w)
 {
-    return take_float(w, &s->dt) && take_float(w, &s->tau) && take_float(w, &s->k) && take_float(w, &s->f) && is_last(w) ? DONE : BAD;
+    int floats = take_float(w, &s->dt) && take_float(w, &s->tau) && take_float(w, &s->k) && take_float(w, &s->f);
+    return floats && take_u8(w, &s->advection) && is_last(w) ? DONE : BAD;
 }
 
 static enum outcome clock_is(struct script *s, struct words *w)

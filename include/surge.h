@@ -76,6 +76,7 @@ extern "C" {
  *   h             N depths
  *   kind          N kinds: 0 free, 1 open, 2 held land
  *   dt, tau, k, f the time step, the report's tau-zero, linear bottom friction, Coriolis
+ *   advection     the advective terms of document 02's #103: 0 is off, every other value on. No row speaks of it, and a save does not hold it.
  *   step, wx, wy  the clock: the step number and the present wind (stress over density)
  *   place, value  one number each, written by every call
  */
@@ -97,13 +98,13 @@ uint32_t surge_open(
     const uint16_t *tri, size_t tri_length,
     const double *h, size_t h_length,
     const uint8_t *kind, size_t kind_length,
-    double dt, double tau, double k, double f);
+    double dt, double tau, double k, double f, uint8_t advection);
 
 /*
  * Steps once: rows 1 to 5 and 7 to 13, in this order. Row 13 looks at all new elevations first, then, node by node, at U' and V'.
  *
  *   next          4N floats, written when accepted: the next state, in the runs of `state`. As found after a refusal.
- *   work          3N floats of work room. All +0 after an accepted step or a 13, as found after any other refusal.
+ *   work          5N floats of work room, at either setting of advection. All +0 after an accepted step or a 13, as found after any other refusal.
  *   sums          N whole numbers of work room. All 0 after an accepted step or a 13, as found after any other refusal.
  *   place, value  written
  *   step, wx, wy  one number each, read and written: the clock goes in, and the advanced clock comes back. A refusal writes what was found.
@@ -124,7 +125,7 @@ uint32_t surge_step(
     const uint16_t *tri, size_t tri_length,
     const double *h, size_t h_length,
     const uint8_t *kind, size_t kind_length,
-    double dt, double tau, double k, double f,
+    double dt, double tau, double k, double f, uint8_t advection,
     double elevation, double wx_new, double wy_new);
 
 /*
@@ -146,7 +147,7 @@ uint32_t surge_save(
     const uint16_t *tri, size_t tri_length,
     const double *h, size_t h_length,
     const uint8_t *kind, size_t kind_length,
-    double dt, double tau, double k, double f,
+    double dt, double tau, double k, double f, uint8_t advection,
     uint32_t step, double wx, double wy);
 
 /*
@@ -169,7 +170,7 @@ uint32_t surge_load(
     const uint16_t *tri, size_t tri_length,
     const double *h, size_t h_length,
     const uint8_t *kind, size_t kind_length,
-    double dt, double tau, double k, double f);
+    double dt, double tau, double k, double f, uint8_t advection);
 
 /*
  * Reads one forcing line: 20, 21, 22, each at place 0. It takes part in no run.

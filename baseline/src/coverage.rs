@@ -2,6 +2,7 @@
 //! refusal table from each call, at each condition of its row, and which NaNs a
 //! refusal left as found.
 
+mod advection;
 mod conditions;
 mod friction;
 mod grids;
@@ -22,6 +23,12 @@ const NUMBERS: [u32; 23] = [
 
 /// The rows whose places are told apart.
 const PLACED: [u32; 2] = [9, 12];
+
+/// What steps meet three times in a row, and what is said of the third.
+const IN_A_ROW: [(&str, &str); 2] = [
+    (friction::TELLS, friction::TELLS_ON),
+    (advection::TELLS, advection::TELLS_ON),
+];
 
 /// How many scripts reached each thing.
 struct Counts<T>(BTreeMap<T, usize>);
@@ -54,8 +61,9 @@ struct Trail {
     calls: usize,
     /// Whether the mesh is one that was read from a grid text.
     mesh_read: bool,
-    /// In how many steps in a row H in m told.
-    told: usize,
+    /// In how many steps in a row each of [`IN_A_ROW`] was met.
+    in_a_row: [usize; 2],
+    crossing: advection::Crossing,
 }
 
 impl Trail {
@@ -68,12 +76,11 @@ impl Trail {
         }
         let mut met = conditions(script, called);
         met.extend(nans::kept(script, called));
+        if number == 0 {
+            met.extend(self.crossing.follow(script, called));
+        }
         if call == Call::Step {
-            let tells = met.iter().any(|condition| condition == friction::TELLS);
-            self.told = if tells { self.told + 1 } else { 0 };
-            if self.told == 3 {
-                met.push(String::from(friction::TELLS_ON));
-            }
+            met.extend(self.thirds(&met));
         }
         for condition in met {
             self.conditions.insert((call, number, condition));
@@ -84,6 +91,19 @@ impl Trail {
             let condition = String::from(grids::ON_READ);
             self.conditions.insert((call, number, condition));
         }
+    }
+
+    /// What is said of the third step in a row that meets the same.
+    fn thirds(&mut self, met: &[String]) -> Vec<String> {
+        let mut thirds = Vec::new();
+        for (count, (name, third)) in self.in_a_row.iter_mut().zip(IN_A_ROW) {
+            let again = met.iter().any(|condition| condition == name);
+            *count = if again { *count + 1 } else { 0 };
+            if *count == 3 {
+                thirds.push(String::from(third));
+            }
+        }
+        thirds
     }
 }
 

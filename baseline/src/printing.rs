@@ -7,7 +7,7 @@ use crate::saves::save;
 use crate::step::step;
 
 /// "mesh T: (0,0), (100,0), (0,100), triangle 0 1 2, h 8, kinds 0, dt 1, tau,
-/// K, f 0".
+/// K, f 0". No request speaks of advection there: it is off.
 pub(crate) const X: [i32; 3] = [0, 100, 0];
 pub(crate) const Y: [i32; 3] = [0, 0, 100];
 pub(crate) const TRI: [u16; 3] = [0, 1, 2];
@@ -18,6 +18,7 @@ pub(crate) const P: Parameters = Parameters {
     tau: 0.0,
     k: 0.0,
     f: 0.0,
+    advection: false,
 };
 
 /// "save length 289 at N 3".
@@ -51,7 +52,7 @@ impl Run {
         let mut next = [0.0; 12];
         let (answer, clock) = step(
             &mut next,
-            &mut [0.0; 9],
+            &mut [0.0; 15],
             &mut [0; 3],
             &self.state,
             &X,

@@ -60,7 +60,8 @@ impl Clock {
     }
 }
 
-/// The four parameters of a run, in the order of row 9's places.
+/// The parameters of a run: four numbers, in the order of row 9's places, and a
+/// setting that row 9 does not speak of.
 #[derive(Clone, Copy, Debug, PartialEq)]
 pub struct Parameters {
     /// The time step.
@@ -71,6 +72,9 @@ pub struct Parameters {
     pub k: f64,
     /// "Coriolis f".
     pub f: f64,
+    /// Request #103: "the advective terms of 1.19 and 2.13 under an on/off
+    /// parameter".
+    pub advection: bool,
 }
 
 /// "A forcing is the new open elevation, then new wind Wx', Wy' (stress over

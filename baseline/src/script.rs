@@ -71,6 +71,8 @@ pub(crate) struct Called {
     pub answer: Answer,
     /// The sequence number that a `read` expected, else 0.
     pub expected: u32,
+    /// The clock that went in.
+    pub clock: Clock,
 }
 
 /// "A line that is none of the commands below, or has a word that is not of its
@@ -91,6 +93,8 @@ pub(crate) struct Script {
     pub text: Held<Byte>,
     pub line: Held<Byte>,
     pub p: Parameters,
+    /// The word of the parameters' setting.
+    pub advection: u8,
     pub clock: Clock,
     pub forcing: Forcing,
     pub printed: Vec<u8>,
@@ -144,7 +148,9 @@ impl Script {
                 tau: 0.0,
                 k: 0.0,
                 f: 0.0,
+                advection: false,
             },
+            advection: 0,
             clock: Clock::COLD,
             forcing: Forcing::ZERO,
             printed: Vec::new(),
@@ -180,7 +186,7 @@ impl Script {
     /// "Setting".
     fn setting(&mut self, command: &[u8], mut words: Words) -> Option<()> {
         match command {
-            b"parameters" => self.p = read_parameters(&mut words)?,
+            b"parameters" => (self.p, self.advection) = read_parameters(&mut words)?,
             b"clock" => self.clock = read_clock(&mut words)?,
             b"forcing" => self.forcing = read_three(&mut words)?,
             b"swap" => swap(&mut self.state, &mut self.next),
@@ -218,6 +224,7 @@ impl Script {
             _ => 0,
         };
         words.end()?;
+        let clock = self.clock;
         let answer = match call {
             Call::Open => {
                 let (answer, clock) = self.open();
@@ -248,6 +255,7 @@ impl Script {
             call,
             answer,
             expected,
+            clock,
         })
     }
 
@@ -389,14 +397,24 @@ fn made_word(value: f64) -> String {
     word(f64::from_bits(pattern(value)))
 }
 
-/// `parameters DT TAU K F`.
-fn read_parameters(words: &mut Words) -> Option<Parameters> {
-    Some(Parameters {
-        dt: words.read::<Float>()?,
-        tau: words.read::<Float>()?,
-        k: words.read::<Float>()?,
-        f: words.read::<Float>()?,
-    })
+/// `parameters DT TAU K F ADVECTION`: "four floats, and an 8-bit unsigned number:
+/// 0 is advection off, every other number on".
+fn read_parameters(words: &mut Words) -> Option<(Parameters, u8)> {
+    let [dt, tau, k, f] = [
+        words.read::<Float>()?,
+        words.read::<Float>()?,
+        words.read::<Float>()?,
+        words.read::<Float>()?,
+    ];
+    let byte = words.read::<Decimal<u8>>()?;
+    let p = Parameters {
+        dt,
+        tau,
+        k,
+        f,
+        advection: byte != 0,
+    };
+    Some((p, byte))
 }
 
 /// `clock STEP WX WY`: "a 32-bit unsigned number and two floats".

@@ -1,4 +1,5 @@
-//! Rows 10 to 13, "Elevation" and "Velocity", and the step itself.
+//! Rows 10 to 13, "Elevation" and "Velocity" with the terms of request #103, and
+//! the step itself.
 
 use crate::mesh::{Lent, Mesh, Triangle};
 use crate::records::{in_size, Answer, Clock, Forcing, Parameters};
@@ -123,8 +124,55 @@ fn times(v: f64, w: f64) -> f64 {
     v * w
 }
 
+/// Request #103 along one axis of a step: what its terms are made of, and where
+/// they stand. A slope is Xu and Yu, along y Xv and Yv.
+pub(crate) struct Advection {
+    /// "(Qx·Xu + Qy·Yu)/D", by Qx and Qy, the slope and D.
+    pub flux: fn([f64; 2], [f64; 2], f64) -> f64,
+    /// J up to its squared-elevation term, by f·Qy, the flux and that term.
+    pub in_j: fn(f64, f64, f64) -> f64,
+    /// "Ub·Xu + Vb·Yu", by Ub and Vb and the slope.
+    pub sum: fn([f64; 2], [f64; 2]) -> f64,
+    /// What the sum is made into, by itself, dt and S.
+    pub rate: fn(f64, f64, f64) -> f64,
+    /// R from gx on, by what stands up to it, the rate and wx.
+    pub in_r: fn(f64, f64, f64) -> f64,
+}
+
+/// "In Jx, (Qx·Xu + Qy·Yu)/D is taken from f·Qy before the squared-elevation
+/// term; Jy likewise with Xv, Yv. In velocity, a sum from +0 by ascending
+/// triangle of Ub·Xu + Vb·Yu is multiplied by dt, divided by S and taken from Rx
+/// after gx and before wx; Ry likewise with Xv and Yv."
+pub(crate) const ON: Advection = Advection {
+    flux: |q, slope, d| (q[0] * slope[0] + q[1] * slope[1]) / d,
+    in_j: |coriolis, flux, squared| (coriolis - flux) - squared,
+    sum: |mean, slope| mean[0] * slope[0] + mean[1] * slope[1],
+    rate: |sum, dt, s| (dt * sum) / s,
+    in_r: |up_to_slope, rate, wind| (up_to_slope - rate) + wind,
+};
+
+/// "Off gives the earlier bits": the terms are left out.
+pub(crate) const OFF: Advection = Advection {
+    in_j: |coriolis, _, squared| coriolis - squared,
+    in_r: |up_to_slope, _, wind| up_to_slope + wind,
+    ..ON
+};
+
+/// Advection along x and along y.
+pub(crate) type Axes<'a> = [&'a Advection; 2];
+
+/// "under an on/off parameter".
+pub(crate) fn axes(advection: bool) -> Axes<'static> {
+    if advection {
+        [&ON; 2]
+    } else {
+        [&OFF; 2]
+    }
+}
+
 /// "The gradients and means of one triangle travel together as one record":
-/// "hb, Ub, Vb, Z, Qx, Qy: means of h, U, V, z*, qx, qy" and Gx, Gy, Sx, Sy.
+/// "hb, Ub, Vb, Z, Qx, Qy: means of h, U, V, z*, qx, qy" and Gx, Gy, Sx, Sy, Xu,
+/// Yu, Xv, Yv.
 struct Record {
     hb: f64,
     ub: f64,
@@ -136,12 +184,17 @@ struct Record {
     gy: f64,
     sx: f64,
     sy: f64,
+    xu: f64,
+    yu: f64,
+    xv: f64,
+    yv: f64,
 }
 
 impl Record {
     /// "For each triangle, zi* = z minus earlier z, Hi = hi+zi, qxi = Ui·Hi,
     /// qyi = Vi·Hi". "Gx = (z1·b1 + z2·b2) + z3·b3, and Gy with a. Sx =
-    /// ((z1·z1)·b1 + (z2·z2)·b2) + (z3·z3)·b3, and Sy with a."
+    /// ((z1·z1)·b1 + (z2·z2)·b2) + (z3·z3)·b3, and Sy with a." "Per triangle, Xu
+    /// = (U1·b1 + U2·b2) + U3·b3, Yu the same with a, and Xv, Yv over V."
     fn of(triangle: &Triangle, mesh: &Mesh, state: &State) -> Record {
         let (a, b) = (triangle.a_floats(), triangle.b_floats());
         let corners = |run: &[f64]| triangle.corners.map(|node| run[node]);
@@ -161,34 +214,40 @@ impl Record {
             gy: gradient(z, a),
             sx: gradient(z_squared, b),
             sy: gradient(z_squared, a),
+            xu: gradient(u, b),
+            yu: gradient(u, a),
+            xv: gradient(v, b),
+            yv: gradient(v, a),
         }
     }
 
-    /// "Jx = ((((f·Qy - (g·Sx)/(2·D)) + Wx) - K·Ub) + (Ub·Z)/dt) + tau·Qx".
-    fn jx(&self, d: f64, p: Parameters, wx: f64) -> f64 {
-        ((((p.f * self.qy - (G * self.sx) / (2.0 * d)) + wx) - p.k * self.ub)
-            + (self.ub * self.z) / p.dt)
-            + p.tau * self.qx
+    /// "Jx = ((((f·Qy - (g·Sx)/(2·D)) + Wx) - K·Ub) + (Ub·Z)/dt) + tau·Qx", with
+    /// advection before the squared-elevation term.
+    fn jx(&self, d: f64, p: Parameters, wx: f64, advection: &Advection) -> f64 {
+        let flux = (advection.flux)([self.qx, self.qy], [self.xu, self.yu], d);
+        let begun = (advection.in_j)(p.f * self.qy, flux, (G * self.sx) / (2.0 * d));
+        (((begun + wx) - p.k * self.ub) + (self.ub * self.z) / p.dt) + p.tau * self.qx
     }
 
-    /// "Jy = (((((-f)·Qx - (g·Sy)/(2·D)) + Wy) - K·Vb) + (Vb·Z)/dt) + tau·Qy".
-    fn jy(&self, d: f64, p: Parameters, wy: f64) -> f64 {
-        (((((-p.f) * self.qx - (G * self.sy) / (2.0 * d)) + wy) - p.k * self.vb)
-            + (self.vb * self.z) / p.dt)
-            + p.tau * self.qy
+    /// "Jy = (((((-f)·Qx - (g·Sy)/(2·D)) + Wy) - K·Vb) + (Vb·Z)/dt) + tau·Qy",
+    /// "likewise with Xv, Yv".
+    fn jy(&self, d: f64, p: Parameters, wy: f64, advection: &Advection) -> f64 {
+        let flux = (advection.flux)([self.qx, self.qy], [self.xv, self.yv], d);
+        let begun = (advection.in_j)((-p.f) * self.qx, flux, (G * self.sy) / (2.0 * d));
+        (((begun + wy) - p.k * self.vb) + (self.vb * self.z) / p.dt) + p.tau * self.qy
     }
 }
 
 /// "corner j receives (Jx·bj + Jy·aj)/2 - ((g·hb)·(Gx·bj + Gy·aj))/(2·D)".
 /// "R of a node starts at +0 and adds its corner values by ascending triangle
 /// number."
-fn add_corner_values(r: &mut [f64], mesh: &Mesh, state: &State, clock: Clock) {
+fn add_corner_values(r: &mut [f64], mesh: &Mesh, state: &State, clock: Clock, axes: Axes) {
     r.fill(0.0);
     for triangle in mesh.triangles() {
         let record = Record::of(&triangle, mesh, state);
         let d = triangle.twice_area() as f64;
-        let jx = record.jx(d, mesh.p, clock.wx);
-        let jy = record.jy(d, mesh.p, clock.wy);
+        let jx = record.jx(d, mesh.p, clock.wx, axes[0]);
+        let jy = record.jy(d, mesh.p, clock.wy, axes[1]);
         let (a, b) = (triangle.a_floats(), triangle.b_floats());
         for j in 0..3 {
             let flux = (jx * b[j] + jy * a[j]) / 2.0;
@@ -282,6 +341,23 @@ fn add_slopes(px: &mut [f64], py: &mut [f64], z_new: &[f64], mesh: &Mesh, state:
     }
 }
 
+/// "a sum from +0 by ascending triangle of Ub·Xu + Vb·Yu", Au, and "likewise with
+/// Xv and Yv" Av: the same value at each corner.
+fn add_advection(au: &mut [f64], av: &mut [f64], mesh: &Mesh, state: &State, axes: Axes) {
+    au.fill(0.0);
+    av.fill(0.0);
+    for triangle in mesh.triangles() {
+        let record = Record::of(&triangle, mesh, state);
+        let mean = [record.ub, record.vb];
+        let of_u = (axes[0].sum)(mean, [record.xu, record.yu]);
+        let of_v = (axes[1].sum)(mean, [record.xv, record.yv]);
+        for node in triangle.corners {
+            au[node] += of_u;
+            av[node] += of_v;
+        }
+    }
+}
+
 /// What the velocity of one node is worked out from.
 struct Water {
     /// "H = h+z".
@@ -292,15 +368,24 @@ struct Water {
     v: f64,
     px: f64,
     py: f64,
+    au: f64,
+    av: f64,
     s: f64,
 }
 
 impl Water {
     /// "r = (dt·K)/(2·H'), p = 1+r", "q = (f·dt)/2", and by request #102
     /// "m = 1 - (dt·K)/(2·H) with H at the present step, while p keeps H'".
-    /// "Rx = ((m·U + q·V) - gx) + wx, Ry = ((m·V - q·U) - gy) + wy,
-    /// n = p·p + q·q. U' = (p·Rx + q·Ry)/n, V' = (p·Ry - q·Rx)/n."
-    fn new_velocity(&self, parameters: Parameters, clock: Clock, forcing: Forcing) -> (f64, f64) {
+    /// "Rx = ((m·U + q·V) - gx) + wx, Ry = ((m·V - q·U) - gy) + wy", with
+    /// advection "after gx and before wx"; "n = p·p + q·q. U' = (p·Rx + q·Ry)/n,
+    /// V' = (p·Ry - q·Rx)/n."
+    fn new_velocity(
+        &self,
+        parameters: Parameters,
+        clock: Clock,
+        forcing: Forcing,
+        axes: Axes,
+    ) -> (f64, f64) {
         let Parameters { dt, k, f, .. } = parameters;
         let p = 1.0 + (dt * k) / (2.0 * self.new_column);
         let m = 1.0 - (dt * k) / (2.0 * self.column);
@@ -309,8 +394,11 @@ impl Water {
         let gy = self.slope(dt, self.py);
         let wx = self.wind(dt, forcing.wx, clock.wx);
         let wy = self.wind(dt, forcing.wy, clock.wy);
-        let rx = ((m * self.u + q * self.v) - gx) + wx;
-        let ry = ((m * self.v - q * self.u) - gy) + wy;
+        let (ax, ay) = (axes[0], axes[1]);
+        let rate_u = (ax.rate)(self.au, dt, self.s);
+        let rate_v = (ay.rate)(self.av, dt, self.s);
+        let rx = (ax.in_r)((m * self.u + q * self.v) - gx, rate_u, wx);
+        let ry = (ay.in_r)((m * self.v - q * self.u) - gy, rate_v, wy);
         let n = p * p + q * q;
         ((p * rx + q * ry) / n, (p * ry - q * rx) / n)
     }
@@ -326,7 +414,8 @@ impl Water {
     }
 }
 
-/// The new values of every node, z' then U' then V', left in the work room.
+/// The new values of every node, z' then U' then V', left in the first 3N of the
+/// work room.
 pub(crate) fn new_values(
     work: &mut [f64],
     sums: &mut [u64],
@@ -334,15 +423,19 @@ pub(crate) fn new_values(
     state: &State,
     clock: Clock,
     forcing: Forcing,
+    axes: Axes,
 ) -> Result<(), Answer> {
     let n = mesh.nodes();
     let (first, rest) = work.split_at_mut(n);
-    let (second, third) = rest.split_at_mut(n);
+    let (second, rest) = rest.split_at_mut(n);
+    let (third, rest) = rest.split_at_mut(n);
+    let (fourth, fifth) = rest.split_at_mut(n);
     add_areas(sums, mesh);
-    add_corner_values(first, mesh, state, clock);
+    add_corner_values(first, mesh, state, clock, axes);
     new_elevations(first, sums, mesh, state, forcing);
     row_13_elevations(first, mesh)?;
     add_slopes(second, third, first, mesh, state);
+    add_advection(fourth, fifth, mesh, state, axes);
     for node in 0..n {
         let water = Water {
             column: mesh.h[node] + state.z[node],
@@ -351,13 +444,15 @@ pub(crate) fn new_values(
             v: state.v[node],
             px: second[node],
             py: third[node],
+            au: fourth[node],
+            av: fifth[node],
             s: sums[node] as f64,
         };
         // "At kind 2 both are +0."
         (second[node], third[node]) = if mesh.kind[node] == HELD_LAND {
             (0.0, 0.0)
         } else {
-            water.new_velocity(mesh.p, clock, forcing)
+            water.new_velocity(mesh.p, clock, forcing, axes)
         };
     }
     row_13_velocities(second, third)
@@ -390,11 +485,12 @@ pub fn step(
     if let Err(refusal) = rows_1_to_12(&mesh, lengths, &state, clock, forcing) {
         return (refusal, clock);
     }
-    let outcome = new_values(work, sums, &mesh, &state, clock, forcing);
+    let axes = axes(p.advection);
+    let outcome = new_values(work, sums, &mesh, &state, clock, forcing, axes);
     if outcome.is_ok() {
         let (earlier, rest) = next.split_at_mut(mesh.nodes());
         earlier.copy_from_slice(state.z);
-        rest.copy_from_slice(work);
+        rest.copy_from_slice(&work[..rest.len()]);
     }
     work.fill(0.0);
     sums.fill(0);
@@ -406,7 +502,8 @@ pub fn step(
 
 /// All that is tested before a step works anything out. The lengths are those
 /// of the next state, the two work rooms and the state: "The next state goes to
-/// a second lent slice of 4N; work room is 3N binary64 and N 64-bit unsigned."
+/// a second lent slice of 4N; work room is 3N binary64 and N 64-bit unsigned",
+/// and by request #103 "Work room grows by 2N binary64", at either setting.
 fn rows_1_to_12(
     mesh: &Mesh,
     lengths: [usize; 4],
@@ -415,7 +512,7 @@ fn rows_1_to_12(
     forcing: Forcing,
 ) -> Result<(), Answer> {
     let [next, work, sums, present] = lengths;
-    let lent = [(next, 4), (work, 3), (sums, 1), (present, 4)];
+    let lent = [(next, 4), (work, 5), (sums, 1), (present, 4)];
     mesh.begin(&lent.map(|(length, runs)| Lent { length, runs }))?;
     row_10(mesh, state)?;
     row_11(clock)?;

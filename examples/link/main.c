@@ -22,15 +22,16 @@ struct run {
     double h[N];
     uint8_t kind[N];
     double dt, tau, k, f;
+    uint8_t advection;
     double state[4 * N], next[4 * N];
-    double work[3 * N];
+    double work[5 * N];
     uint64_t sums[N];
     uint32_t step;
     double wx, wy;
 };
 
 /* The mesh as each call takes it. */
-#define MESH(r) (r)->x, N, (r)->y, N, (r)->tri, 3 * E, (r)->h, N, (r)->kind, N, (r)->dt, (r)->tau, (r)->k, (r)->f
+#define MESH(r) (r)->x, N, (r)->y, N, (r)->tri, 3 * E, (r)->h, N, (r)->kind, N, (r)->dt, (r)->tau, (r)->k, (r)->f, (r)->advection
 
 static int refused(const char *call, uint32_t number, size_t place, double value)
 {
@@ -52,7 +53,7 @@ static int step_run(struct run *r, double wx_new, double wy_new)
 {
     size_t place;
     double value;
-    uint32_t number = surge_step(r->next, 4 * N, r->work, 3 * N, r->sums, N, &place, &value, &r->step, &r->wx, &r->wy, r->state, 4 * N,
+    uint32_t number = surge_step(r->next, 4 * N, r->work, 5 * N, r->sums, N, &place, &value, &r->step, &r->wx, &r->wy, r->state, 4 * N,
                                  MESH(r), 0.0, wx_new, wy_new);
     return !refused("step", number, place, value);
 }

@@ -1,6 +1,7 @@
 //! Which condition of a row a call met, worked out from what the script holds
 //! after it: a refusal leaves everything as found but, at 13, the work room.
 
+use super::advection;
 use super::friction;
 use super::grids;
 use super::names::{lent_to, side, LIMITS, PARAMETER_NAMES, RUN_NAMES};
@@ -8,10 +9,10 @@ use crate::frames::byte_of;
 use crate::generate::values::{Range, COLUMN, DEPTH, ELEVATION, PARAMETERS, RUNS, VELOCITY, WIND};
 use crate::generate::worlds::legs;
 use crate::mesh::{Mesh, Triangle};
-use crate::records::{Clock, Parameters};
+use crate::records::{Answer, Clock, Parameters};
 use crate::saves::read_lines;
 use crate::script::{Call, Called, Script};
-use crate::step::{new_values, State};
+use crate::step::{axes, new_values, Axes, State};
 use std::collections::HashMap;
 
 /// The conditions that a call met.
@@ -21,7 +22,7 @@ pub(crate) fn conditions(script: &Script, called: Called) -> Vec<String> {
     match (called.answer.number, called.call) {
         (_, Call::Grid) => grids::conditions(script, called.answer),
         (0, Call::Read) => accepted_line(script, called.expected),
-        (0, call) => accepted(script, call),
+        (0, _) => accepted(script, called),
         (1, call) => one(length(script, call)),
         (2, _) => one(count(script)),
         (3, _) => numbers(script, place),
@@ -80,10 +81,19 @@ fn length(script: &Script, call: Call) -> String {
     match wrong.as_slice() {
         [] => format!("tri {over} over"),
         _ if over != 0 => String::from("several"),
-        [(name, runs)] => format!("{name} {}", difference(length_of(script, name), runs * n)),
+        [(name, runs)] => misfit(script, name, runs * n),
         all if all.len() == lent.len() => format!("x {}", difference(n, script.y.0.len())),
         _ => String::from("several"),
     }
+}
+
+/// How the one slice that is wrong differs.
+fn misfit(script: &Script, name: &str, due: usize) -> String {
+    let room = match name {
+        "work" => advection::room(script),
+        _ => None,
+    };
+    room.unwrap_or_else(|| format!("{name} {}", difference(length_of(script, name), due)))
 }
 
 /// Row 2.
@@ -261,28 +271,38 @@ fn wind(script: &Script, call: Call, place: usize) -> Vec<String> {
     beyond(name, value, range).into_iter().collect()
 }
 
+/// The new values of a step, worked out once more by any formulas.
+pub(crate) fn again(script: &Script, clock: Clock, axes: Axes) -> (Vec<f64>, Result<(), Answer>) {
+    let n = script.x.0.len();
+    let (mut work, mut sums) = (vec![0.0; 5 * n], vec![0; n]);
+    let (mesh, state) = (mesh(script), State::of(&script.state.0));
+    let forcing = script.forcing;
+    let outcome = new_values(&mut work, &mut sums, &mesh, &state, clock, forcing, axes);
+    (work, outcome)
+}
+
 /// Row 13: the new values are worked out once more, to see which left its
 /// range.
 fn outcome(script: &Script, place: usize) -> Vec<String> {
     let n = script.x.0.len();
-    let (mut work, mut sums) = (vec![0.0; 3 * n], vec![0; n]);
-    let (mesh, state) = (mesh(script), State::of(&script.state.0));
-    let (clock, forcing) = (script.clock, script.forcing);
     // The refusal is known: the call has answered it.
-    let _ = new_values(&mut work, &mut sums, &mesh, &state, clock, forcing);
-    let (z, column) = (work[place], script.h.0[place] + work[place]);
-    // The last two runs hold velocities only where every elevation passed.
+    let (work, _) = again(script, script.clock, axes(script.p.advection));
+    // The runs after z' hold velocities only where every elevation passed.
     let all_pass = (0..n).all(|node| {
         side(work[node], ELEVATION).is_none() && script.h.0[node] + work[node] >= COLUMN
     });
-    if !all_pass {
-        let met = beyond("z'", z, ELEVATION).or(short_of_water("H'", column));
-        return met.into_iter().collect();
-    }
-    let (u, v) = (work[n + place], work[2 * n + place]);
-    let met = beyond("U'", u, VELOCITY).or(beyond("V'", v, VELOCITY));
+    let met = if all_pass {
+        let (u, v) = (work[n + place], work[2 * n + place]);
+        beyond("U'", u, VELOCITY).or(beyond("V'", v, VELOCITY))
+    } else {
+        let (z, column) = (work[place], script.h.0[place] + work[place]);
+        beyond("z'", z, ELEVATION).or(short_of_water("H'", column))
+    };
     let met = met.unwrap_or_default();
-    let mut all = friction::refused(script, &work, place, &met);
+    let mut all = Vec::from_iter(advection::refused(script, &met));
+    if all_pass {
+        all.extend(friction::refused(script, &work, place, &met));
+    }
     all.push(met);
     all
 }
@@ -377,7 +397,8 @@ fn accepted_line(script: &Script, expected: u32) -> Vec<String> {
 }
 
 /// The limits that an accepted call on a run stood at.
-fn accepted(script: &Script, call: Call) -> Vec<String> {
+fn accepted(script: &Script, called: Called) -> Vec<String> {
+    let call = called.call;
     let mut met = sizes(script);
     if call != Call::Open && has_leg_twice(script) {
         met.push(String::from("a leg twice"));
@@ -386,6 +407,7 @@ fn accepted(script: &Script, call: Call) -> Vec<String> {
         Call::Step => {
             met.extend(step_limits(script));
             met.extend(friction::accepted(script));
+            met.extend(advection::accepted(script, called.clock));
         }
         Call::Save => met.push(spare_room(script)),
         Call::Load if script.clock.step == u32::MAX => met.push(String::from("last step")),

@@ -5,6 +5,7 @@ mod fields;
 mod rooms;
 mod spellings;
 
+use super::advection::all_bytes;
 use super::nans::all_kept;
 use super::wanted::{each, of, Reached};
 use crate::grids::{fields_of, signed, Depth};
@@ -187,6 +188,7 @@ pub(crate) fn all_conditions() -> Vec<Reached> {
     all.extend(spellings::all_conditions());
     all.extend(all_kept(&[Call::Grid]));
     all.extend(runs());
+    all.extend(all_bytes());
     all
 }
 

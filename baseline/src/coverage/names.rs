@@ -17,7 +17,7 @@ const LENGTHS: [(&str, usize); 7] = [
     ("kind", 1),
     ("state", 4),
     ("next", 4),
-    ("work", 3),
+    ("work", 5),
     ("sums", 1),
 ];
 

@@ -1,5 +1,6 @@
 //! All that a coverage is to reach.
 
+use super::advection;
 use super::friction;
 use super::grids;
 use super::names::{lent_to, LIMITS, PARAMETER_NAMES, RUN_NAMES, SIDES};
@@ -40,6 +41,7 @@ fn runs_and_lines() -> Vec<Reached> {
     }
     all.extend(step_rows());
     all.extend(friction::all_conditions());
+    all.extend(advection::all_conditions());
     all.extend(of(Call::Save, 24, &["one shorter", "empty"]));
     all.extend(of(Call::Save, 0, &["room just enough", "room to spare"]));
     all.extend(text_rows());

@@ -4,9 +4,10 @@
 use super::nans;
 use super::pen::Pen;
 use super::runs::make_room;
-use super::settings::{any_manner, clock, forcing, save_length, set_state, small_size, start};
+use super::settings::{any_manner, clock, forcing, save_length, set_state, small_size};
+use super::settings::{otherwise, start};
 use super::texts::damage;
-use super::values::{lowest_elevation, tested, word};
+use super::values::{anything, in_size, inside, lowest_elevation, tested, word};
 use super::values::{DEPTH, ELEVATION, PARAMETERS, RUNS, WIND};
 use crate::records::{Clock, Forcing, Parameters};
 use crate::script::Call;
@@ -18,16 +19,19 @@ pub(crate) fn faults(pen: &mut Pen) {
     start(pen, nodes, manner);
     make_room(pen, 0);
     pen.call(Call::Save);
-    for _ in 0..6 + pen.dice.below(10) {
+    for _ in 0..8 + pen.dice.below(10) {
         let forcing = forcing(pen, manner);
         pen.set_forcing(forcing);
         if !pen.dice.one_in(3) {
             pen.work_rooms();
         }
-        if pen.dice.one_in(6) {
-            nudge(pen);
-        } else {
-            round(pen);
+        if pen.dice.one_in(4) {
+            pen.set_parameters(otherwise(pen.script.p));
+        }
+        match pen.dice.below(12) {
+            0 | 1 => nudge(pen),
+            2 => stream(pen),
+            _ => round(pen),
         }
         pen.mend();
         // The calls may have left a cold state and clock behind.
@@ -94,6 +98,9 @@ fn fault(pen: &mut Pen) -> u32 {
 /// 1: "triangle list no multiple of 3, or a slice of another length": one
 /// shorter, one longer, or empty.
 fn length(pen: &mut Pen) {
+    if pen.dice.one_in(8) {
+        return other_runs(pen);
+    }
     let names = [
         "x", "y", "tri", "h", "kind", "state", "next", "work", "sums",
     ];
@@ -110,6 +117,13 @@ fn length(pen: &mut Pen) {
         1 => pen.lengthen(name, &last),
         _ => pen.change_slice(name, format!("set {name}")),
     }
+}
+
+/// 1: a work room of other runs of N, 3N as before request #103 among them.
+fn other_runs(pen: &mut Pen) {
+    let length = pen.dice.one_of(&[3, 4, 6]) * pen.nodes();
+    let filling = word(anything(&mut pen.dice));
+    pen.change_slice("work", format!("fill work {length} {filling}"));
 }
 
 /// 2: "N not 3..4,096 or E not 1..8,192", and the limits themselves.
@@ -130,13 +144,18 @@ fn counts(pen: &mut Pen) {
 
 /// Makes every slice that has runs of N elements fit another N.
 fn resize(pen: &mut Pen, nodes: usize) {
-    let zero = word(0.0);
     for name in ["x", "y", "kind", "sums"] {
         pen.change_slice(name, format!("fill {name} {nodes} 0"));
     }
     pen.change_slice("h", format!("fill h {nodes} {}", word(8.0)));
-    for (name, runs) in [("state", 4), ("next", 4), ("work", 3)] {
-        pen.change_slice(name, format!("fill {name} {} {zero}", runs * nodes));
+    change_rooms(pen, nodes);
+}
+
+/// Makes the rooms of a step fit another N.
+fn change_rooms(pen: &mut Pen, nodes: usize) {
+    for (name, runs) in [("state", 4), ("next", 4), ("work", 5)] {
+        let line = format!("fill {name} {} {}", runs * nodes, word(0.0));
+        pen.change_slice(name, line);
     }
 }
 
@@ -236,10 +255,7 @@ fn unnamed(pen: &mut Pen) {
         pen.lengthen(name, "0");
     }
     pen.lengthen("h", &word(8.0));
-    for (name, runs) in [("state", 4), ("next", 4), ("work", 3)] {
-        let line = format!("fill {name} {} {}", runs * (nodes + 1), word(0.0));
-        pen.change_slice(name, line);
-    }
+    change_rooms(pen, nodes + 1);
     if pen.dice.one_in(2) {
         name_the_last(pen, nodes);
     }
@@ -283,7 +299,7 @@ fn parameter(pen: &mut Pen) {
         numbers[place] = tested(&mut pen.dice, PARAMETERS[place]);
     }
     let [dt, tau, k, f] = numbers;
-    pen.change_parameters(Parameters { dt, tau, k, f });
+    pen.change_parameters(Parameters { dt, tau, k, f, ..p });
 }
 
 /// 10: "either z beyond 30 in size, present h+z below 0.1, U or V beyond 20".
@@ -370,28 +386,64 @@ fn keep_text(pen: &mut Pen) {
     pen.change_slice("text", String::from("# the text is undone afterwards"));
 }
 
-/// 13: "z' beyond 30, H' below 0.1, U' or V' beyond 20": still water with a few
-/// nodes that stand at a limit and are pushed over it.
-fn nudge(pen: &mut Pen) {
-    let still = format!("fill state {} {}", 4 * pen.nodes(), word(0.0));
-    pen.change_slice("state", still);
+/// Short steps without tau, friction and a held wind.
+fn becalm(pen: &mut Pen, dt: f64, f: f64) {
     pen.change_parameters(Parameters {
-        dt: 0.125,
+        dt,
         tau: 0.0,
         k: 0.0,
-        f: 0.0,
+        f,
+        ..pen.script.p
     });
     pen.change_clock(Clock {
         step: 5,
         wx: 0.0,
         wy: 0.0,
     });
+}
+
+/// A step, and at times the same under the other setting of advection.
+fn step_and_otherwise(pen: &mut Pen) {
+    pen.call(Call::Step);
+    if pen.dice.one_in(2) {
+        pen.change_parameters(otherwise(pen.script.p));
+        pen.call(Call::Step);
+    }
+}
+
+/// Water that streams past water at rest and neither rises nor falls: what moves
+/// it is not rounded away, so that the order of the terms is seen.
+fn stream(pen: &mut Pen) {
+    let f = pen.dice.one_of(&[0.001, -0.001]);
+    let dt = 0.25 + inside(&mut pen.dice, in_size(0.125));
+    becalm(pen, dt, f);
+    let (nodes, dice) = (pen.nodes(), &mut pen.dice);
+    let mut any = |limit: f64| {
+        let some = inside(dice, in_size(limit));
+        dice.one_of(&[some, 0.0])
+    };
+    let z: Vec<f64> = (0..nodes).map(|_| any(0.5)).collect();
+    let velocities: Vec<f64> = (0..2 * nodes).map(|_| any(4.0)).collect();
+    let state = [&z[..], &z, &velocities].concat();
+    let words: Vec<String> = state.into_iter().map(word).collect();
+    pen.change_slice("state", format!("set state {}", words.join(" ")));
+    step_and_otherwise(pen);
+}
+
+/// 13: "z' beyond 30, H' below 0.1, U' or V' beyond 20": still water with a few
+/// nodes that stand at a limit and are pushed over it.
+fn nudge(pen: &mut Pen) {
+    let still = format!("fill state {} {}", 4 * pen.nodes(), word(0.0));
+    pen.change_slice("state", still);
+    becalm(pen, 0.125, 0.0);
     for _ in 0..pen.dice.one_of(&[1, 1, 2, 3]) {
         let node = pen.any_node();
-        match pen.dice.below(5) {
+        match pen.dice.below(7) {
             0 => rising(pen, node),
             1 => low_tide(pen, node),
             2 => flooded(pen, node),
+            3 => lifted(pen, node),
+            4 => carried(pen),
             _ => fast(pen, node),
         }
     }
@@ -399,7 +451,7 @@ fn nudge(pen: &mut Pen) {
         nans::in_slice(pen, name);
     }
     pen.say("echo rows 13");
-    pen.call(Call::Step);
+    step_and_otherwise(pen);
 }
 
 /// A node's elevation goes on as it went, over the limit.
@@ -446,6 +498,31 @@ fn flooded(pen: &mut Pen, node: usize) {
     change_state(pen, nodes + node, -0.875);
     let speed = pen.dice.one_of(&[20.0, -20.0, 1.0, -1.0]);
     change_state(pen, run * nodes + node, speed);
+}
+
+/// Level water at a limit of z, or with just enough of it, and a node that moves:
+/// advection alone lifts nodes around it or draws them down, over the limit.
+fn lifted(pen: &mut Pen, node: usize) {
+    let (nodes, run) = (pen.nodes(), 2 + pen.dice.below(2));
+    let levels = [(64.0, 30.0), (64.0, -30.0), (1.0, lowest_elevation(1.0))];
+    let (h, z) = pen.dice.one_of(&levels);
+    pen.change_slice("h", format!("fill h {nodes} {}", word(h)));
+    pen.change_slice("kind", format!("fill kind {nodes} 0"));
+    pen.change_slice("state", format!("fill state {} {}", 2 * nodes, word(z)));
+    pen.lengthen("state", &vec![word(0.0); 2 * nodes].join(" "));
+    let speed = pen.dice.one_of(&[10.0, -10.0]);
+    change_state(pen, run * nodes + node, speed);
+}
+
+/// Everywhere U or V stands at a limit in still air: where advection carries none
+/// over, they stay.
+fn carried(pen: &mut Pen) {
+    let (nodes, run) = (pen.nodes(), 2 + pen.dice.below(2));
+    for node in 0..nodes {
+        let speed = pen.dice.one_of(&[20.0, -20.0]);
+        change_state(pen, run * nodes + node, speed);
+    }
+    pen.change_forcing(Forcing::ZERO);
 }
 
 /// A node's U or V stands at its limit, and the wind may blow that way.

@@ -150,7 +150,7 @@ impl Pen {
     /// not be seen.
     pub fn work_rooms(&mut self) {
         self.fill_runs("next", 4);
-        self.fill_runs("work", 3);
+        self.fill_runs("work", 5);
         let filling = self.dice.bits();
         self.say(format!("fill sums {} {filling}", self.nodes()));
     }
@@ -161,7 +161,19 @@ impl Pen {
     }
 
     pub fn set_parameters(&mut self, p: Parameters) {
-        self.say(parameters_line(p));
+        let byte = self.byte_of(p.advection);
+        self.say(parameters_line(p, byte));
+    }
+
+    /// The byte of a setting: 1 most often where it is on.
+    fn byte_of(&mut self, advection: bool) -> u8 {
+        let any = 1 + self.dice.below(255) as u8;
+        let on = self.dice.one_of(&[1, 1, 1, 1, 1, 2, 128, 255, any]);
+        if advection {
+            on
+        } else {
+            0
+        }
     }
 
     pub fn set_clock(&mut self, clock: Clock) {
@@ -230,7 +242,9 @@ impl Pen {
 
     /// Changes the parameters.
     pub fn change_parameters(&mut self, p: Parameters) {
-        self.change(parameters_line(p), parameters_line(self.script.p));
+        let byte = self.byte_of(p.advection);
+        let undo = parameters_line(self.script.p, self.script.advection);
+        self.change(parameters_line(p, byte), undo);
     }
 
     /// Changes the clock.
@@ -267,9 +281,9 @@ impl Pen {
     }
 }
 
-fn parameters_line(p: Parameters) -> String {
+fn parameters_line(p: Parameters, byte: u8) -> String {
     let words = [p.dt, p.tau, p.k, p.f].map(word);
-    format!("parameters {}", words.join(" "))
+    format!("parameters {} {byte}", words.join(" "))
 }
 
 fn clock_line(clock: Clock) -> String {

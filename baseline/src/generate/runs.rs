@@ -2,7 +2,8 @@
 
 use super::lines::{forcing_frame, line_of};
 use super::pen::{byte_word, Pen};
-use super::settings::{any_manner, any_size, clock, forcing, parameters, save_length, start};
+use super::settings::{any_manner, any_size, clock, forcing, parameters, save_length};
+use super::settings::{otherwise, start};
 use super::values::{anything, word};
 use super::worlds::{world, Manner};
 use crate::script::Call;
@@ -47,6 +48,9 @@ pub(crate) fn step_on(pen: &mut Pen, manner: Manner) -> bool {
     if pen.dice.one_in(6) {
         pen.work_rooms();
     }
+    if pen.dice.one_in(10) {
+        step_otherwise(pen);
+    }
     let answer = if pen.dice.one_in(4) {
         pen.call(Call::Step)
     } else {
@@ -63,6 +67,16 @@ pub(crate) fn step_on(pen: &mut Pen, manner: Manner) -> bool {
         _ => return false,
     }
     true
+}
+
+/// The step under the other setting of advection, and back to before it: both
+/// settings meet the same state.
+fn step_otherwise(pen: &mut Pen) {
+    let (p, clock) = (pen.script.p, pen.script.clock);
+    pen.set_parameters(otherwise(p));
+    pen.call(Call::Step);
+    pen.set_parameters(p);
+    pen.set_clock(clock);
 }
 
 /// Sets a forcing, at times by a line that is read.
@@ -85,8 +99,8 @@ pub(crate) fn make_room(pen: &mut Pen, more: usize) {
     pen.say(format!("fill text {room} {filling}"));
 }
 
-/// Saves, loads into this or another slice, and saves again: "loading it
-/// returns the same bits".
+/// Saves, loads into this or another slice, at times under the other setting of
+/// advection, and saves again: "loading it returns the same bits".
 pub(crate) fn save_and_load(pen: &mut Pen) {
     let more = pen.dice.one_of(&[0, 1, 17, 73]);
     make_room(pen, more);
@@ -106,6 +120,9 @@ pub(crate) fn save_and_load(pen: &mut Pen) {
     if pen.dice.one_in(2) {
         let clock = clock(pen);
         pen.set_clock(clock);
+    }
+    if pen.dice.one_in(4) {
+        pen.set_parameters(otherwise(pen.script.p));
     }
     pen.call(Call::Load);
     make_room(pen, 0);

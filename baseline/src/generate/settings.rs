@@ -42,14 +42,21 @@ pub(crate) fn save_length(pen: &Pen) -> usize {
 /// Legal parameters; calm ones let a run go on for long.
 pub(crate) fn parameters(pen: &mut Pen, manner: Manner) -> Parameters {
     let [dt, tau, k, f] = PARAMETERS.map(|range| legal(&mut pen.dice, range));
+    let any = Parameters {
+        dt,
+        tau,
+        k,
+        f,
+        advection: pen.dice.one_in(2),
+    };
     if manner == Manner::Wild {
-        return Parameters { dt, tau, k, f };
+        return any;
     }
     let some = inside(&mut pen.dice, CALM).abs();
     let dice = &mut pen.dice;
     if manner == Manner::Bold {
         let dt = dice.one_of(&[0.125, 0.5 + some, 2.0]);
-        return Parameters { dt, tau, k, f };
+        return Parameters { dt, ..any };
     }
     Parameters {
         dt: dice
@@ -58,6 +65,15 @@ pub(crate) fn parameters(pen: &mut Pen, manner: Manner) -> Parameters {
         tau: dice.one_of(&[0.0, -0.0, some, some, tau / 64.0, 1.0]),
         k: dice.one_of(&[0.0, -0.0, some, k / 64.0, 1.0]),
         f: dice.one_of(&[0.0, f, -0.001, 0.001]),
+        ..any
+    }
+}
+
+/// The same parameters under the other setting of advection.
+pub(crate) fn otherwise(p: Parameters) -> Parameters {
+    Parameters {
+        advection: !p.advection,
+        ..p
     }
 }
 

@@ -52,7 +52,7 @@ fn same_seed_same_text() {
 fn the_scripts_of_seed_1_are_these() {
     for (family, digest) in FAMILIES
         .into_iter()
-        .zip(["BABA4B9AB30DCE16", "3463CDA5C6884198"])
+        .zip(["E466186E58841EF4", "B2040D74AE0915AF"])
     {
         let mut hash = 0xCBF2_9CE4_8422_2325_u64;
         for byte in (0..100).flat_map(|index| generate(family, 1, index)) {
@@ -70,6 +70,22 @@ fn the_first_200_scripts_have_no_bad_line() {
             assert_eq!(printed.bad_line, None, "{family:?} {index}");
             assert!(!printed.text.is_empty(), "{family:?} {index}");
         }
+    }
+}
+
+#[test]
+fn about_half_of_the_scripts_begin_with_advection_on() {
+    for family in FAMILIES {
+        let mut counts = [0; 2];
+        for index in 0..300 {
+            let text = String::from_utf8(generate(family, 1, index)).unwrap();
+            let first = text.lines().find(|line| line.starts_with("parameters "));
+            if let Some(line) = first {
+                counts[usize::from(!line.ends_with(" 0"))] += 1;
+            }
+        }
+        let [off, on] = counts;
+        assert!(3 * off > 2 * on && 3 * on > 2 * off, "{counts:?}");
     }
 }
 

@@ -68,7 +68,7 @@ fn row_1_rooms_of_a_step() {
     let spoil: [fn(&mut Lent); 6] = [
         |lent| lent.next.truncate(11),
         |lent| lent.next.push(0.0),
-        |lent| lent.work.truncate(8),
+        |lent| lent.work.truncate(14),
         |lent| lent.work.push(0.0),
         |lent| lent.sums.truncate(2),
         |lent| lent.sums.push(0),
@@ -78,6 +78,22 @@ fn row_1_rooms_of_a_step() {
         spoil(&mut lent);
         lent.clone().step_refused(1, 0);
         accepted(lent.open().0, 0);
+    }
+}
+
+/// "Work room grows by 2N binary64": 5N at either setting, and 3N no more.
+#[test]
+fn row_1_runs_of_the_work_room() {
+    for advection in [false, true] {
+        for runs in 0..8 {
+            let mut lent = Lent::mesh_t();
+            lent.p.advection = advection;
+            lent.work.resize(3 * runs, f64::from_bits(FILL));
+            match runs {
+                5 => lent.step_accepted(),
+                _ => lent.step_refused(1, 0),
+            }
+        }
     }
 }
 
@@ -97,7 +113,7 @@ fn any_lengths_are_answered() {
         lent.kind.resize(length(4, 3), 0);
         lent.state.resize(length(5, 12), 0.0);
         lent.next.resize(length(6, 12), 0.0);
-        lent.work.resize(length(7, 9), 0.0);
+        lent.work.resize(length(7, 15), 0.0);
         lent.sums.resize(length(8, 3), 0);
         let whole = code == (3_usize.pow(9) - 1) / 2;
         assert_eq!(lent.step().0.number == 0, whole);
@@ -312,6 +328,15 @@ fn row_9_each_parameter() {
             accepted(lent.open().0, 0);
         }
     }
+}
+
+#[test]
+fn row_9_does_not_speak_of_advection() {
+    let mut lent = Lent::mesh_t();
+    lent.p.advection = true;
+    accepted(lent.open().0, 0);
+    lent.p.f = 1.0;
+    lent.open_refused(9, 3);
 }
 
 #[test]

@@ -47,7 +47,7 @@ impl Lent {
             p: P,
             state: vec![0.0; 12],
             next: vec![f64::from_bits(FILL); 12],
-            work: vec![f64::from_bits(FILL); 9],
+            work: vec![f64::from_bits(FILL); 15],
             sums: vec![FILL; 3],
             clock: Clock::COLD,
             forcing: Forcing::ZERO,
@@ -64,7 +64,7 @@ impl Lent {
             kind: vec![0; 4],
             state: vec![0.0; 16],
             next: vec![f64::from_bits(FILL); 16],
-            work: vec![f64::from_bits(FILL); 12],
+            work: vec![f64::from_bits(FILL); 20],
             sums: vec![FILL; 4],
             ..Lent::mesh_t()
         }

@@ -155,6 +155,23 @@ fn a_restart_goes_on_with_the_same_bits() {
     }
 }
 
+/// Saves and loads do not know the setting of advection.
+#[test]
+fn a_text_saved_under_one_setting_loads_under_the_other() {
+    for advection in [false, true] {
+        let mut lent = busy_t();
+        lent.p.advection = advection;
+        let text = text_of(&lent);
+        assert_eq!(text, text_of(&busy_t()));
+        let mut other = Lent::mesh_t();
+        other.p.advection = !advection;
+        let (answer, clock) = other.load(&text);
+        accepted(answer, 0);
+        same_clock(clock, lent.clock);
+        assert_eq!(bits(&other.state), bits(&lent.state));
+    }
+}
+
 #[test]
 fn text_room_past_a_save_keeps_its_bytes() {
     let mut text = [b'?'; 300];

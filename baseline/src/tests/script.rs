@@ -32,9 +32,9 @@ fill h 3 4020000000000000
 fill kind 3 0
 fill state 12 3FF0000000000000
 fill next 12 3FF0000000000000
-fill work 9 3FF0000000000000
+fill work 15 3FF0000000000000
 fill sums 3 7
-parameters 3FF0000000000000 0000000000000000 0000000000000000 0000000000000000
+parameters 3FF0000000000000 0000000000000000 0000000000000000 0000000000000000 0
 forcing 0000000000000000 3F90000000000000 0000000000000000
 ";
 
@@ -117,14 +117,14 @@ fn rows_1_to_10_leave_each_nan_as_found() {
         ("put x 1 0", 5),
         ("put kind 0 3", 8),
         (
-            "parameters 0000000000000000 0000000000000000 0000000000000000 0000000000000000",
+            "parameters 0000000000000000 0000000000000000 0000000000000000 0000000000000000 0",
             9,
         ),
         ("fill kind 3 0", 10),
     ];
     for nan in NANS {
         for (fault, row) in faults {
-            let rooms = format!("fill state 12 {nan}\nfill next 12 {nan}\nfill work 9 {nan}\n");
+            let rooms = format!("fill state 12 {nan}\nfill next 12 {nan}\nfill work 15 {nan}\n");
             let clock = format!("clock 7 {nan} {nan}\n");
             let printed = prints(&format!(
                 "{MESH_T}{rooms}{fault}\n{clock}step\nprint state\nprint next\nprint work\n"
@@ -132,7 +132,7 @@ fn rows_1_to_10_leave_each_nan_as_found() {
             let filled = |name: &str, count: usize| {
                 format!("set {name}{}\n", [" ", nan].concat().repeat(count))
             };
-            let left = filled("state", 12) + &filled("next", 12) + &filled("work", 9);
+            let left = filled("state", 12) + &filled("next", 12) + &filled("work", 15);
             assert_eq!(
                 printed,
                 format!("step {row} 0 {ZERO}\n{clock}{left}"),
@@ -160,7 +160,7 @@ fn rows_11_to_13_leave_each_nan_as_found() {
         let found = format!(
             "set work {} {nan} {}",
             [ONE; 3].join(" "),
-            [ONE; 5].join(" ")
+            [ONE; 11].join(" ")
         );
         for (setting, row) in [
             (format!("clock 4294967295 {nan} {ZERO}"), 11),
@@ -179,7 +179,7 @@ fn rows_11_to_13_leave_each_nan_as_found() {
         assert!(printed[0].starts_with("step 13 1 "));
         assert_eq!(
             printed[2..],
-            [next, format!("set work {}", [ZERO; 9].join(" "))]
+            [next, format!("set work {}", [ZERO; 15].join(" "))]
         );
     }
 }
@@ -323,7 +323,7 @@ fn a_run_on_mesh_t() {
         zeros(12),
         zeros(6),
         zeros(3),
-        zeros(9),
+        zeros(15),
     );
     printed_as(&script, &expected);
     let on = format!(
@@ -497,7 +497,7 @@ fn floats_and_bytes_that_are_none() {
         bad(&format!("put next 5 {word}"));
         bad(&format!("forcing {ZERO} {word} {ZERO}"));
         bad(&format!("clock 0 {ZERO} {word}"));
-        bad(&format!("parameters {ZERO} {ZERO} {ZERO} {word}"));
+        bad(&format!("parameters {ZERO} {ZERO} {ZERO} {word} 0"));
     }
     for word in ["", "0", "a0", "0g", "000", "G0", "-1", "255"] {
         bad(&format!("set text {word}"));
@@ -507,7 +507,7 @@ fn floats_and_bytes_that_are_none() {
 
 #[test]
 fn too_few_and_too_many_words() {
-    for (name, count) in [("parameters", 4), ("forcing", 3), ("clock 1", 2)] {
+    for (name, count) in [("parameters", 5), ("forcing", 3), ("clock 1", 2)] {
         for words in [count - 1, count + 1] {
             bad(&format!("{name} {}", [ZERO].repeat(words).join(" ")));
         }
@@ -519,6 +519,23 @@ fn too_few_and_too_many_words() {
         }
     }
     bad("read 1 2");
+}
+
+/// "0 is advection off, every other number on".
+#[test]
+fn the_byte_of_advection() {
+    let four = format!("parameters {ONE} {ZERO} {ZERO} {ZERO}");
+    let moving = format!("{MESH_T}open\nput state 6 {ONE}\n");
+    let stepped = |byte: &str| prints(&format!("{moving}{four} {byte}\nstep\nprint next\n"));
+    assert_eq!(stepped("000"), stepped("0"));
+    assert_ne!(stepped("1"), stepped("0"));
+    for byte in ["2", "128", "254", "255", "001"] {
+        assert_eq!(stepped(byte), stepped("1"), "{byte}");
+    }
+    for byte in ["", "256", "-1", "-0", "+1", "1.0", "on", ONE] {
+        bad(&format!("{four} {byte}"));
+    }
+    bad(&four);
 }
 
 /// The bytes of a text as words.

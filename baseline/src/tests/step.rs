@@ -4,7 +4,7 @@ use super::*;
 use crate::generate::dice::Dice;
 use crate::generate::values::{legal, Range};
 use crate::mesh::Mesh;
-use crate::step::{new_values, State};
+use crate::step::{axes, new_values, State};
 
 /// The smallest wind Wx' on T whose U' at U = 20 is one bit beyond 20:
 /// (Wx'/8)/2 is the distance between 20 and its next number.
@@ -250,6 +250,7 @@ fn all_terms() -> Lent {
         tau: 0.25,
         k: 0.5,
         f: 1.0 / 1024.0,
+        advection: false,
     };
     lent.state = vec![
         0.5, 0.25, -0.125, 0.0625, // earlier z
@@ -352,16 +353,93 @@ fn divisors(lent: &Lent, z_new: &[f64], node: usize) -> [[f64; 2]; 6] {
     ]
 }
 
+/// An advective term between what stands before it and after it in J or R.
+type Place = fn(f64, f64, f64) -> f64;
+
+/// J from f·Qy to the squared-elevation term, first as the request has it: then
+/// with the term added, taken after the other, divided by 2·D, and left out.
+const IN_J: [Place; 5] = [
+    |coriolis, term, squared| (coriolis - term) - squared,
+    |coriolis, term, squared| (coriolis + term) - squared,
+    |coriolis, term, squared| (coriolis - squared) - term,
+    |coriolis, term, squared| (coriolis - term / 2.0) - squared,
+    |coriolis, _, squared| coriolis - squared,
+];
+
+/// R from gx to wx, first as the request has it: then with the term added, taken
+/// after wx, and left out.
+const IN_R: [Place; 4] = [
+    |up_to_slope, term, wind| (up_to_slope - term) + wind,
+    |up_to_slope, term, wind| (up_to_slope + term) + wind,
+    |up_to_slope, term, wind| (up_to_slope + wind) - term,
+    |up_to_slope, _, wind| up_to_slope + wind,
+];
+
+/// A run of the state, at the nodes of T.
+fn run_of(lent: &Lent, run: usize) -> [f64; 3] {
+    [0, 1, 2].map(|node| lent.state[3 * run + node])
+}
+
+fn mean(v: [f64; 3]) -> f64 {
+    ((v[0] + v[1]) + v[2]) / 3.0
+}
+
+/// The two gradients of T, which has b = -100, 100, 0 and a = -100, 0, 100.
+fn gradients([v1, v2, v3]: [f64; 3]) -> [f64; 2] {
+    [
+        (v1 * -100.0 + v2 * 100.0) + v3 * 0.0,
+        (v1 * -100.0 + v2 * 0.0) + v3 * 100.0,
+    ]
+}
+
+/// z' of T as "Elevation" has them, with advection in any place. D and S are
+/// 10,000.
+fn elevations(lent: &Lent, in_j: Place) -> [f64; 3] {
+    let Parameters { dt, tau, k, f, .. } = lent.p;
+    let nodes = [0, 1, 2];
+    let [earlier, z, u, v] = [0, 1, 2, 3].map(|run| run_of(lent, run));
+    let star = nodes.map(|i| z[i] - earlier[i]);
+    let column = nodes.map(|i| lent.h[i] + z[i]);
+    let (hb, ub, vb) = (mean(nodes.map(|i| lent.h[i])), mean(u), mean(v));
+    let qx = mean(nodes.map(|i| u[i] * column[i]));
+    let qy = mean(nodes.map(|i| v[i] * column[i]));
+    let ([gx, gy], [sx, sy]) = (gradients(z), gradients(z.map(|z| z * z)));
+    let ([xu, yu], [xv, yv]) = (gradients(u), gradients(v));
+    let term_u = (qx * xu + qy * yu) / 10_000.0;
+    let term_v = (qx * xv + qy * yv) / 10_000.0;
+    let jx = in_j(f * qy, term_u, (9.81 * sx) / 20_000.0);
+    let jy = in_j((-f) * qx, term_v, (9.81 * sy) / 20_000.0);
+    let jx = (((jx + lent.clock.wx) - k * ub) + (ub * mean(star)) / dt) + tau * qx;
+    let jy = (((jy + lent.clock.wy) - k * vb) + (vb * mean(star)) / dt) + tau * qy;
+    let l = (10_000.0 / 6.0) / dt;
+    nodes.map(|i| {
+        let (a, b) = ([-100.0, 0.0, 100.0][i], [-100.0, 100.0, 0.0][i]);
+        let r = 0.0 + ((jx * b + jy * a) / 2.0 - ((9.81 * hb) * (gx * b + gy * a)) / 20_000.0);
+        let weighed = (l * (1.0 / dt - tau / 2.0)) * star[i] + r;
+        z[i] + weighed / (l * (1.0 / dt + tau / 2.0))
+    })
+}
+
 /// U' and V' of a node of T as "Velocity" has them, with any divisors in p and
-/// m. T has a = -100, 0, 100, b = -100, 100, 0 and S = 10,000.
-fn velocity(lent: &Lent, z_new: &[f64], node: usize, [in_p, in_m]: [f64; 2]) -> [u64; 2] {
+/// m, and with advection in any place.
+fn velocity(
+    lent: &Lent,
+    z_new: &[f64],
+    node: usize,
+    [in_p, in_m]: [f64; 2],
+    in_r: Place,
+) -> [u64; 2] {
     let Parameters { dt, k, f, .. } = lent.p;
     let (p, m, q) = (1.0 + (dt * k) / in_p, 1.0 - (dt * k) / in_m, (f * dt) / 2.0);
-    let z = &lent.state[3..6];
-    let [z1, z2, z3] = [0, 1, 2].map(|corner| z[corner] + z_new[corner]);
-    let px = 0.0 + ((z1 * -100.0 + z2 * 100.0) + z3 * 0.0);
-    let py = 0.0 + ((z1 * -100.0 + z2 * 0.0) + z3 * 100.0);
+    let z = run_of(lent, 1);
+    let [px, py] = gradients([0, 1, 2].map(|corner| z[corner] + z_new[corner]));
+    let (px, py) = (0.0 + px, 0.0 + py);
     let slope = |sum: f64| ((9.81 * dt) * sum) / 20_000.0;
+    let means = [2, 3].map(|run| mean(run_of(lent, run)));
+    let [au, av] = [2, 3].map(|run| {
+        let [x, y] = gradients(run_of(lent, run));
+        (dt * (0.0 + (means[0] * x + means[1] * y))) / 10_000.0
+    });
     let (column, new_column) = (lent.h[node] + z[node], lent.h[node] + z_new[node]);
     let wind = |new: f64, present: f64| (dt * (new / new_column + present / column)) / 2.0;
     let (wx, wy) = (
@@ -369,10 +447,8 @@ fn velocity(lent: &Lent, z_new: &[f64], node: usize, [in_p, in_m]: [f64; 2]) -> 
         wind(lent.forcing.wy, lent.clock.wy),
     );
     let (u, v) = (lent.state[6 + node], lent.state[9 + node]);
-    let (rx, ry) = (
-        ((m * u + q * v) - slope(px)) + wx,
-        ((m * v - q * u) - slope(py)) + wy,
-    );
+    let rx = in_r((m * u + q * v) - slope(px), au, wx);
+    let ry = in_r((m * v - q * u) - slope(py), av, wy);
     let n = p * p + q * q;
     [(p * rx + q * ry) / n, (p * ry - q * rx) / n].map(f64::to_bits)
 }
@@ -388,6 +464,7 @@ fn any_t(dice: &mut Dice, k: f64) -> Lent {
         tau: any(0.0, 0.125),
         k,
         f: any(-0.001, 0.001),
+        advection: false,
     };
     for (numbers, limit) in lent.state.chunks_mut(3).zip([1.0, 1.0, 20.0, 20.0]) {
         numbers.fill_with(|| any(-limit, limit));
@@ -403,9 +480,17 @@ fn worked_out(lent: &Lent) -> (Vec<f64>, Vec<[u64; 2]>) {
     let (x, y, tri, h) = (&lent.x, &lent.y, &lent.tri, &lent.h);
     let mesh = Mesh::lent(x, y, tri, h, &lent.kind, lent.p);
     let (mut work, mut sums) = (lent.work.clone(), lent.sums.clone());
-    let (state, clock) = (State::of(&lent.state), lent.clock);
+    let (state, clock, axes) = (State::of(&lent.state), lent.clock, axes(lent.p.advection));
     // A refusal of U' or V' says no more than the values themselves.
-    let _ = new_values(&mut work, &mut sums, &mesh, &state, clock, lent.forcing);
+    let _ = new_values(
+        &mut work,
+        &mut sums,
+        &mesh,
+        &state,
+        clock,
+        lent.forcing,
+        axes,
+    );
     let velocity = |node: usize| [work[3 + node], work[6 + node]].map(f64::to_bits);
     (work[..3].to_vec(), (0..3).map(velocity).collect())
 }
@@ -419,7 +504,7 @@ fn friction_on_any_state() {
         let (z_new, velocities) = worked_out(&lent);
         for (node, found) in velocities.into_iter().enumerate() {
             let rules = divisors(&lent, &z_new, node);
-            let other = rules.map(|rule| velocity(&lent, &z_new, node, rule) != found);
+            let other = rules.map(|rule| velocity(&lent, &z_new, node, rule, IN_R[3]) != found);
             assert!(!other[0], "{:?}", lent.state);
             for (count, other) in told.iter_mut().zip(other) {
                 *count += usize::from(other);
@@ -439,7 +524,199 @@ fn without_friction_the_bits_of_the_earlier_rule() {
         let (z_new, velocities) = worked_out(&lent);
         for (node, found) in velocities.into_iter().enumerate() {
             let earlier_rule = divisors(&lent, &z_new, node)[1];
-            assert_eq!(velocity(&lent, &z_new, node, earlier_rule), found);
+            let by_rule = velocity(&lent, &z_new, node, earlier_rule, IN_R[3]);
+            assert_eq!(by_rule, found);
         }
     }
+}
+
+/// A triangle of legs 96 and 128 whose numbers are all dyadic: a = -96, 0, 96, b
+/// = -128, 128, 0, D and S are 12,288 and S/6 is 2,048. Ub = 4 and Vb = 2, Xu =
+/// 128·6 = 768 and Yu = 96·3 = 288, Xv = -384 and Yv = 288.
+fn stream() -> Lent {
+    let mut lent = Lent::mesh_t();
+    (lent.x[1], lent.y[2]) = (96, 128);
+    lent.p.advection = true;
+    lent.state[6..].copy_from_slice(&[1.0, 7.0, 4.0, 2.0, -1.0, 5.0]);
+    lent
+}
+
+/// Qx = 32 and Qy = 16: Jx = -(32·768 + 16·288)/12,288 = -19/8 and Jy = -(16·288 -
+/// 32·384)/12,288 = 5/8. R is 122, -152 and 30, and z' = R/2,048.
+#[test]
+fn advection_in_elevation_by_hand() {
+    let mut lent = stream();
+    lent.step_accepted();
+    let by_hand = [122.0, -152.0, 30.0].map(|r| r / 2_048.0);
+    assert_eq!(lent.state[3..6], by_hand);
+    let mut off = stream();
+    off.p.advection = false;
+    off.step_accepted();
+    assert_eq!(off.state[3..6], [0.0; 3]);
+}
+
+/// Where all nodes are open: Au = 4·768 + 2·288 = 3,648 and Av = 2·288 - 4·384 =
+/// -960, so that with dt = 2 (dt·Au)/S = 19/32 and (dt·Av)/S = -5/32.
+#[test]
+fn advection_in_velocity_by_hand() {
+    let mut lent = stream();
+    lent.kind.fill(1);
+    lent.p.dt = 2.0;
+    let mut off = lent.clone();
+    off.p.advection = false;
+    off.step_accepted();
+    assert_eq!(off.state[6..], lent.state[6..]);
+    lent.step_accepted();
+    let (u, v) = (lent.state[6..9].to_vec(), lent.state[9..].to_vec());
+    assert_eq!(u, [1.0, 7.0, 4.0].map(|u| u - 19.0 / 32.0));
+    assert_eq!(v, [2.0, -1.0, 5.0].map(|v| v + 5.0 / 32.0));
+}
+
+/// The square with sides of 128: D is 16,384, Au of its triangles 1,920 and
+/// 2,688, Av -384 and 384. Nodes 0 and 2 are in both, nodes 1 and 3 in one each.
+#[test]
+fn the_sums_of_advection_go_over_the_triangles_of_a_node() {
+    let mut lent = Lent::square();
+    (lent.x, lent.y) = (vec![0, 128, 128, 0], vec![0, 0, 128, 128]);
+    lent.kind.fill(1);
+    lent.p.advection = true;
+    let (u, v) = ([0.0, 3.0, 6.0, 3.0], [3.0, 0.0, 3.0, 6.0]);
+    lent.state[8..].copy_from_slice(&[u, v].concat());
+    lent.step_accepted();
+    let (both, one) = (32_768.0, 16_384.0);
+    let taken_u = [4_608.0 / both, 1_920.0 / one, 4_608.0 / both, 2_688.0 / one];
+    let taken_v = [0.0, -384.0 / one, 0.0, 384.0 / one];
+    for node in 0..4 {
+        assert_eq!(lent.state[8 + node], u[node] - taken_u[node]);
+        assert_eq!(lent.state[12 + node], v[node] - taken_v[node]);
+    }
+}
+
+/// Any T with so small a dt that advection too leaves every z' in its range.
+fn any_stream(dice: &mut Dice, advection: bool) -> Lent {
+    let mut lent = any_t(dice, 0.5);
+    lent.p.dt = lent.p.dt.min(0.25);
+    lent.p.advection = advection;
+    lent
+}
+
+/// How many of some states tell each place in J, and how many of their nodes
+/// each place in R, from what a step gives.
+fn told(dice: &mut Dice, advection: bool) -> ([usize; 5], [usize; 4]) {
+    let (mut told_j, mut told_r) = ([0; 5], [0; 4]);
+    for _ in 0..300 {
+        let lent = any_stream(dice, advection);
+        let (z_new, velocities) = worked_out(&lent);
+        for (count, place) in told_j.iter_mut().zip(IN_J) {
+            *count += usize::from(bits(&elevations(&lent, place)) != bits(&z_new));
+        }
+        for (node, found) in velocities.into_iter().enumerate() {
+            let rule = divisors(&lent, &z_new, node)[0];
+            for (count, place) in told_r.iter_mut().zip(IN_R) {
+                *count += usize::from(velocity(&lent, &z_new, node, rule, place) != found);
+            }
+        }
+    }
+    (told_j, told_r)
+}
+
+#[test]
+fn advection_on_any_state() {
+    let (told_j, told_r) = told(&mut Dice::of(103, 0), true);
+    assert_eq!((told_j[0], told_r[0]), (0, 0));
+    // Another order is told by rounding alone.
+    let mut others = told_j[1..].iter().chain(&told_r[1..]);
+    assert!(others.all(|&count| count > 10), "{told_j:?} {told_r:?}");
+}
+
+/// "Off gives the earlier bits."
+#[test]
+fn off_gives_the_earlier_bits_on_any_state() {
+    let (told_j, told_r) = told(&mut Dice::of(103, 1), false);
+    assert_eq!((told_j[4], told_r[3]), (0, 0));
+    assert!(told_j[0] > 290 && told_r[0] > 870, "{told_j:?} {told_r:?}");
+}
+
+/// Water that moves alike everywhere, or not at all, has nothing to carry.
+#[test]
+fn advection_of_even_water_is_nothing() {
+    for numbers in [[0.0; 4], [0.0, 0.0, 5.0, -7.0], [0.25, 0.5, 0.0, 0.0]] {
+        let mut on = uniform(numbers);
+        on.forcing.wx = 0.0625;
+        let mut off = on.clone();
+        on.p.advection = true;
+        on.step_accepted();
+        off.step_accepted();
+        assert_eq!(bits(&on.state), bits(&off.state));
+    }
+}
+
+/// A run that advection leads over a limit, and that is accepted without it.
+fn over_by_advection(mut lent: Lent, node: usize, value: f64) {
+    lent.clone().step_accepted();
+    lent.p.advection = true;
+    lent.step_13(node, value);
+}
+
+/// Ub = 1 and Xu = -2,500, so that Au = -2,500, or Ub = -1 and Au = 2,500; V
+/// likewise, with Yv.
+#[test]
+fn row_13_velocity_by_advection() {
+    for (run, speeds, node, value) in [
+        (2, [20.0, -5.0, -12.0], 0, 20.25),
+        (2, [5.0, -20.0, 12.0], 1, -20.25),
+        (3, [20.0, -12.0, -5.0], 0, 20.25),
+        (3, [5.0, 12.0, -20.0], 2, -20.25),
+    ] {
+        let mut lent = Lent::mesh_t();
+        lent.kind.fill(1);
+        lent.state[3 * run..3 * run + 3].copy_from_slice(&speeds);
+        over_by_advection(lent, node, value);
+    }
+}
+
+/// Over 40 m of level water Qx = 40, so that Jx = 10 and R is -500, 500, 0.
+#[test]
+fn row_13_elevation_by_advection() {
+    let level = |h: f64, z: f64| {
+        let mut lent = uniform([z, z, 0.0, 0.0]);
+        lent.h.fill(h);
+        lent.state[6..9].copy_from_slice(&[20.0, -5.0, -12.0]);
+        lent
+    };
+    let rise = 500.0 / (10_000.0 / 6.0);
+    over_by_advection(level(10.0, 30.0), 1, 30.0 + rise);
+    over_by_advection(level(70.0, -30.0), 0, -30.0 - rise);
+    // Over 1/4 m Jx is 1/16 and R -25/8, 25/8, 0.
+    let mut low = level(10.0, -9.75);
+    low.p.dt = 16.0;
+    let fall = 3.125 / (((10_000.0 / 6.0) / 16.0) * (1.0 / 16.0));
+    over_by_advection(low, 0, 10.0 + (-9.75 - fall));
+}
+
+#[test]
+fn refusals_leave_the_work_room_of_either_setting() {
+    for advection in [false, true] {
+        let mut lent = stream();
+        lent.p.advection = advection;
+        lent.clock.wx = 1.0;
+        lent.clone().step_refused(12, 0);
+        lent.clock.step = u32::MAX;
+        lent.clone().step_refused(11, 0);
+        lent.state[8] = 21.0;
+        lent.clone().step_refused(10, 2);
+        lent.p.k = 2.0;
+        lent.clone().step_refused(9, 2);
+        lent.work.truncate(9);
+        lent.step_refused(1, 0);
+    }
+}
+
+#[test]
+fn advection_leaves_held_land_at_rest() {
+    let mut lent = stream();
+    lent.kind[1] = 2;
+    lent.step_accepted();
+    assert_eq!(bits(&[lent.state[7], lent.state[10]]), [0; 2]);
+    assert_ne!(lent.state[6], 1.0);
 }

@@ -1,6 +1,8 @@
 -- The product's records, from the numbers that a C program passes and gets back one by one. What a call does is said by the product's own
 -- definitions (openOf, stepOf, saveOf, loadOf, takenOf) on these records, and by nothing else.
 use Prim.Native.Nat.{ℕ}
+use mathlib.Core.Bool.{not}
+use lib.Dec.{eqb}
 use lib.Ieee.{Float}
 use Rattle.rows.specs.declared.Answer.{Answer}
 use Rattle.quantities.specs.declared.Parameters.{Parameters}
@@ -9,8 +11,9 @@ use Rattle.quantities.specs.declared.Forcing.{Forcing}
 use Rattle.surge.specs.declared.Reply.{Reply}
 use Rattle.forcings.specs.declared.Taken.{Taken}
 
-abbrev pub parameters : Float → Float → Float → Float → Parameters
-parameters dt tau k f = record { dt = dt; tau = tau; k = k; f = f }
+-- The setting crosses as a byte: 0 is off, every other value on.
+abbrev pub parameters : Float → Float → Float → Float → ℕ → Parameters
+parameters dt tau k f advection = record { dt = dt; tau = tau; k = k; f = f; advection = not (eqb advection 0) }
 
 abbrev pub clock : ℕ → Float → Float → Clock
 clock step wx wy = record { step = step; wx = wx; wy = wy }

@@ -17,6 +17,19 @@ ghost use Rattle.forcings.specs.Forcings.{takenOf};
 ghost use Rattle.grids.specs.Grid.{grid, readOut, readOf};
 ghost use Rattle.capi.specs.Numbers.{parameters, clock, forcing, answer, reply, taken};
 
+// The setting of advection crosses as a byte: 0 is off, every other value on.
+fn parameters(dt: f64, tau: f64, k: f64, f: f64, advection: u8) -> Parameters
+    ensures { λ r. ⌜ r ≡ parameters dt tau k f advection ⌝ }
+{
+    Parameters {
+        dt,
+        tau,
+        k,
+        f,
+        advection: advection != 0,
+    }
+}
+
 // Hands back what a call on a run replies: all but the number through pointers.
 fn hand_back(
     place: &mut usize,
@@ -54,10 +67,11 @@ pub extern "C" fn surge_open(
     tau: f64,
     k: f64,
     f: f64,
+    advection: u8,
 ) -> u32
-    ensures { λ r. ⌜ after (reply (answer r (now (place .exit)) (now (value .exit))) (clock (now (step .exit)) (now (wx .exit)) (now (wy .exit)))) (now (state .exit)) ≡ openOf (mesh (now (x .entry)) (now (y .entry)) (now (tri .entry)) (now (h .entry)) (now (kind .entry))) (parameters dt tau k f) (now (state .entry)) ⌝ }
+    ensures { λ r. ⌜ after (reply (answer r (now (place .exit)) (now (value .exit))) (clock (now (step .exit)) (now (wx .exit)) (now (wy .exit)))) (now (state .exit)) ≡ openOf (mesh (now (x .entry)) (now (y .entry)) (now (tri .entry)) (now (h .entry)) (now (kind .entry))) (parameters dt tau k f advection) (now (state .entry)) ⌝ }
 {
-    let p = Parameters { dt, tau, k, f };
+    let p = parameters(dt, tau, k, f, advection);
     let opened = surge::open(state, x, y, tri, h, kind, p);
     hand_back(place, value, step, wx, wy, opened)
 }
@@ -83,13 +97,14 @@ pub extern "C" fn surge_step(
     tau: f64,
     k: f64,
     f: f64,
+    advection: u8,
     elevation: f64,
     wx_new: f64,
     wy_new: f64,
 ) -> u32
-    ensures { λ r. ⌜ stepOut (reply (answer r (now (place .exit)) (now (value .exit))) (clock (now (step .exit)) (now (wx .exit)) (now (wy .exit)))) (now (next .exit)) (now (work .exit)) (now (sums .exit)) ≡ stepOf (mesh (now (x .entry)) (now (y .entry)) (now (tri .entry)) (now (h .entry)) (now (kind .entry))) (parameters dt tau k f) (run (now (state .entry)) (clock (now (step .entry)) (now (wx .entry)) (now (wy .entry)))) (forcing elevation «wx_new» «wy_new») (lentRooms (now (next .entry)) (now (work .entry)) (now (sums .entry))) ⌝ }
+    ensures { λ r. ⌜ stepOut (reply (answer r (now (place .exit)) (now (value .exit))) (clock (now (step .exit)) (now (wx .exit)) (now (wy .exit)))) (now (next .exit)) (now (work .exit)) (now (sums .exit)) ≡ stepOf (mesh (now (x .entry)) (now (y .entry)) (now (tri .entry)) (now (h .entry)) (now (kind .entry))) (parameters dt tau k f advection) (run (now (state .entry)) (clock (now (step .entry)) (now (wx .entry)) (now (wy .entry)))) (forcing elevation «wx_new» «wy_new») (lentRooms (now (next .entry)) (now (work .entry)) (now (sums .entry))) ⌝ }
 {
-    let p = Parameters { dt, tau, k, f };
+    let p = parameters(dt, tau, k, f, advection);
     let c = Clock {
         step: *step,
         wx: *wx,
@@ -120,13 +135,14 @@ pub extern "C" fn surge_save(
     tau: f64,
     k: f64,
     f: f64,
+    advection: u8,
     step: u32,
     wx: f64,
     wy: f64,
 ) -> u32
-    ensures { λ r. ⌜ saveOut (answer r (now (place .exit)) (now (value .exit))) (now (text .exit)) ≡ saveOf (mesh (now (x .entry)) (now (y .entry)) (now (tri .entry)) (now (h .entry)) (now (kind .entry))) (parameters dt tau k f) (now (state .entry)) (clock step wx wy) (now (text .entry)) ⌝ }
+    ensures { λ r. ⌜ saveOut (answer r (now (place .exit)) (now (value .exit))) (now (text .exit)) ≡ saveOf (mesh (now (x .entry)) (now (y .entry)) (now (tri .entry)) (now (h .entry)) (now (kind .entry))) (parameters dt tau k f advection) (now (state .entry)) (clock step wx wy) (now (text .entry)) ⌝ }
 {
-    let p = Parameters { dt, tau, k, f };
+    let p = parameters(dt, tau, k, f, advection);
     let c = Clock { step, wx, wy };
     let saved = saves::save(text, state, x, y, tri, h, kind, p, c);
     *place = saved.place;
@@ -153,10 +169,11 @@ pub extern "C" fn surge_load(
     tau: f64,
     k: f64,
     f: f64,
+    advection: u8,
 ) -> u32
-    ensures { λ r. ⌜ after (reply (answer r (now (place .exit)) (now (value .exit))) (clock (now (step .exit)) (now (wx .exit)) (now (wy .exit)))) (now (state .exit)) ≡ loadOf (mesh (now (x .entry)) (now (y .entry)) (now (tri .entry)) (now (h .entry)) (now (kind .entry))) (parameters dt tau k f) (now (text .entry)) (now (state .entry)) (clock (now (step .entry)) (now (wx .entry)) (now (wy .entry))) ⌝ }
+    ensures { λ r. ⌜ after (reply (answer r (now (place .exit)) (now (value .exit))) (clock (now (step .exit)) (now (wx .exit)) (now (wy .exit)))) (now (state .exit)) ≡ loadOf (mesh (now (x .entry)) (now (y .entry)) (now (tri .entry)) (now (h .entry)) (now (kind .entry))) (parameters dt tau k f advection) (now (text .entry)) (now (state .entry)) (clock (now (step .entry)) (now (wx .entry)) (now (wy .entry))) ⌝ }
 {
-    let p = Parameters { dt, tau, k, f };
+    let p = parameters(dt, tau, k, f, advection);
     let c = Clock {
         step: *step,
         wx: *wx,

@@ -60,7 +60,7 @@ module _ (m : Mesh) (p : Parameters) (s : Run) (f : Forcing) (rooms : Rooms) (k 
     unfolding flowAt flowOf flow
     same-flow i l =
         let dt = dt-finite _ (dt-in _ _ _ _ p (mesh-parts _ m p (ran .mesh) .1)) in
-        ap (λ (x : Float). ofKind (kindOf g i) (flowBy p (pushAt g i) x))
+        ap (λ (x : Float). ofKind (kindOf g i) (flowBy p (pushAt g i) (g .less) x))
         (same-m p (pushAt g i) dt k (column-passed _ (ran .bounds i l)) (rise-passed g rises i l .1))
 
     same-next : nextBy g (earlierFlow g) ≡ nextState g

@@ -83,41 +83,41 @@ Reading Says = Keeps read-forcing-kinds.ps read-forcing-kinds.r read-forcing-rea
 
 -- ---- the calls for C: the number is the result, and all else that comes back goes through pointers
 
--- surge_open(state, place, value, step, wx, wy, x, y, tri, h, kind, dt, tau, k, f)
+-- surge_open(state, place, value, step, wx, wy, x, y, tri, h, kind, dt, tau, k, f, advection)
 abbrev pub OpeningC : (Mesh → Parameters → List Float → After → Type 0) → Type 0
 OpeningC Says =
     Keeps surge-open-kinds.ps surge-open-kinds.r surge-open-reads.Post
-    (λ κs (state, (_, (_, (_, (_, (_, (x, (y, (tri, (h, (kind, (dt, (tau, (k, (f, _))))))))))))))) number (state′, (place, (value, (step, (wx, (wy, _)))))).
-    Says (mesh (x .now) (y .now) (tri .now) (h .now) (kind .now)) (C.parameters dt tau k f) (state .now)
+    (λ κs (state, (_, (_, (_, (_, (_, (x, (y, (tri, (h, (kind, (dt, (tau, (k, (f, (on, _)))))))))))))))) number (state′, (place, (value, (step, (wx, (wy, _)))))).
+    Says (mesh (x .now) (y .now) (tri .now) (h .now) (kind .now)) (C.parameters dt tau k f on) (state .now)
     (after (C.reply (C.answer number place value) (C.clock step wx wy)) state′))
 
--- surge_step(next, work, sums, place, value, step, wx, wy, state, x, y, tri, h, kind, dt, tau, k, f, elevation, wx_new, wy_new)
+-- surge_step(next, work, sums, place, value, step, wx, wy, state, x, y, tri, h, kind, dt, tau, k, f, advection, elevation, wx_new, wy_new)
 abbrev pub SteppingC : (Mesh → Parameters → Run → Forcing → Rooms → StepOut → Type 0) → Type 0
 SteppingC Says =
     Keeps surge-step-kinds.ps surge-step-kinds.r surge-step-reads.Post
     (λ κs
-    (next, (work, (sums, (_, (_, (step, (wx, (wy, (state, (x, (y, (tri, (h, (kind, (dt, (tau, (k, (f, (elevation, (east, (north, _)))))))))))))))))))))
+    (next, (work, (sums, (_, (_, (step, (wx, (wy, (state, (x, (y, (tri, (h, (kind, (dt, (tau, (k, (f, (on, (elevation, (east, (north, _))))))))))))))))))))))
     number (next′, (work′, (sums′, (place, (value, (step′, (wx′, (wy′, _)))))))).
-    Says (mesh (x .now) (y .now) (tri .now) (h .now) (kind .now)) (C.parameters dt tau k f) (run (state .now) (C.clock (step .now) (wx .now) (wy .now)))
+    Says (mesh (x .now) (y .now) (tri .now) (h .now) (kind .now)) (C.parameters dt tau k f on) (run (state .now) (C.clock (step .now) (wx .now) (wy .now)))
     (C.forcing elevation east north) (lentRooms (next .now) (work .now) (sums .now))
     (stepOut (C.reply (C.answer number place value) (C.clock step′ wx′ wy′)) next′ work′ sums′))
 
--- surge_save(text, place, value, state, x, y, tri, h, kind, dt, tau, k, f, step, wx, wy)
+-- surge_save(text, place, value, state, x, y, tri, h, kind, dt, tau, k, f, advection, step, wx, wy)
 abbrev pub SavingC : (Mesh → Parameters → List Float → Clock → List ℕ → SaveOut → Type 0) → Type 0
 SavingC Says =
     Keeps surge-save-kinds.ps surge-save-kinds.r surge-save-reads.Post
-    (λ κs (text, (_, (_, (state, (x, (y, (tri, (h, (kind, (dt, (tau, (k, (f, (step, (wx, (wy, _)))))))))))))))) number (text′, (place, (value, _))).
-    Says (mesh (x .now) (y .now) (tri .now) (h .now) (kind .now)) (C.parameters dt tau k f) (state .now) (C.clock step wx wy) (text .now)
+    (λ κs (text, (_, (_, (state, (x, (y, (tri, (h, (kind, (dt, (tau, (k, (f, (on, (step, (wx, (wy, _))))))))))))))))) number (text′, (place, (value, _))).
+    Says (mesh (x .now) (y .now) (tri .now) (h .now) (kind .now)) (C.parameters dt tau k f on) (state .now) (C.clock step wx wy) (text .now)
     (saveOut (C.answer number place value) text′))
 
--- surge_load(state, place, value, step, wx, wy, text, x, y, tri, h, kind, dt, tau, k, f)
+-- surge_load(state, place, value, step, wx, wy, text, x, y, tri, h, kind, dt, tau, k, f, advection)
 abbrev pub LoadingC : (Mesh → Parameters → List ℕ → List Float → Clock → After → Type 0) → Type 0
 LoadingC Says =
     Keeps surge-load-kinds.ps surge-load-kinds.r surge-load-reads.Post
     (λ κs
-    (state, (_, (_, (step, (wx, (wy, (text, (x, (y, (tri, (h, (kind, (dt, (tau, (k, (f, _))))))))))))))))
+    (state, (_, (_, (step, (wx, (wy, (text, (x, (y, (tri, (h, (kind, (dt, (tau, (k, (f, (on, _)))))))))))))))))
     number (state′, (place, (value, (step′, (wx′, (wy′, _)))))).
-    Says (mesh (x .now) (y .now) (tri .now) (h .now) (kind .now)) (C.parameters dt tau k f) (text .now) (state .now)
+    Says (mesh (x .now) (y .now) (tri .now) (h .now) (kind .now)) (C.parameters dt tau k f on) (text .now) (state .now)
     (C.clock (step .now) (wx .now) (wy .now))
     (after (C.reply (C.answer number place value) (C.clock step′ wx′ wy′)) state′))
 

@@ -24,7 +24,7 @@ earlierM p x = one ⊖ r p x
 
 -- U' and V' of node i with it
 abbrev pub earlierFlow : Given → ℕ → Flow
-earlierFlow g i = ofKind (kindOf g i) (flowBy (g .p) (pushAt g i) (earlierM (g .p) (pushAt g i)))
+earlierFlow g i = ofKind (kindOf g i) (flowBy (g .p) (pushAt g i) (g .less) (earlierM (g .p) (pushAt g i)))
 
 -- the whole outcome of a step with these
 unfoldable pub earlierStep : Mesh → Parameters → Run → Forcing → Rooms → StepOut

@@ -7,19 +7,33 @@ use quantities::Sides;
 use quantities::Wind;
 use triangle::Means;
 ghost use mathlib.Core.Path.{_≡_};
+ghost use Rattle.quantities.specs.Operations.{_⊕_, _⊗_, _⊘_, lessIf};
 ghost use Rattle.elevation.specs.Elevation.{Jx, Jy, corner, shares, L, z′, riseOf};
 
-fn jx(run: Parameters, w: Wind, m: Means, d: f64) -> f64
-    ensures { λ r. ⌜ r ≡ Jx run w m d ⌝ }
+// With the advective term of X and Y, of U or of V, taken, where the setting is on.
+fn carried(run: Parameters, m: Means, d: f64, from: f64, x: f64, y: f64) -> f64
+    ensures { λ r. ⌜ r ≡ lessIf (run .advection) from ((m .qx ⊗ x ⊕ m .qy ⊗ y) ⊘ d) ⌝ }
 {
-    ((((run.f * m.qy - (G * m.sx) / (2.0 * d)) + w.x) - run.k * m.ub) + (m.ub * m.z) / run.dt)
+    if run.advection {
+        from - (m.qx * x + m.qy * y) / d
+    } else {
+        from
+    }
+}
+
+fn jx(run: Parameters, w: Wind, m: Means, d: f64) -> f64
+    ensures { λ r. ⌜ r ≡ Jx (lessIf (run .advection)) run w m d ⌝ }
+{
+    let carried = carried(run, m, d, run.f * m.qy, m.xu, m.yu);
+    ((((carried - (G * m.sx) / (2.0 * d)) + w.x) - run.k * m.ub) + (m.ub * m.z) / run.dt)
         + run.tau * m.qx
 }
 
 fn jy(run: Parameters, w: Wind, m: Means, d: f64) -> f64
-    ensures { λ r. ⌜ r ≡ Jy run w m d ⌝ }
+    ensures { λ r. ⌜ r ≡ Jy (lessIf (run .advection)) run w m d ⌝ }
 {
-    (((((-run.f) * m.qx - (G * m.sy) / (2.0 * d)) + w.y) - run.k * m.vb) + (m.vb * m.z) / run.dt)
+    let carried = carried(run, m, d, (-run.f) * m.qx, m.xv, m.yv);
+    ((((carried - (G * m.sy) / (2.0 * d)) + w.y) - run.k * m.vb) + (m.vb * m.z) / run.dt)
         + run.tau * m.qy
 }
 
@@ -31,7 +45,7 @@ fn corner(m: Means, d: f64, jx: f64, jy: f64, a: f64, b: f64) -> f64
 
 // The one record of the triangle serves its three corners.
 pub fn shares(run: Parameters, w: Wind, m: Means, s: Sides) -> Shares
-    ensures { λ r. ⌜ r ≡ shares run w m s ⌝ }
+    ensures { λ r. ⌜ r ≡ shares (lessIf (run .advection)) run w m s ⌝ }
 {
     let x = jx(run, w, m, s.d);
     let y = jy(run, w, m, s.d);

@@ -35,10 +35,11 @@ fn main() {
         tau: 0.0,
         k: 0.0,
         f: 0.0,
+        advection: false,
     };
     let mut state = [0.0; 12];
     let mut next = [0.0; 12];
-    let mut work = [0.0; 9];
+    let mut work = [0.0; 15];
     let mut sums = [0u64; 3];
     let opened = surge::open(&mut state, &x, &y, &tri, &h, &kind, p);
     let wind = Forcing {

@@ -22,7 +22,7 @@ coldLog = record { lines = 0; clock = coldClock; state = coldState 3 }
 
 -- the step by a forcing, with rooms of T's lengths
 abbrev pub rooms : Rooms
-rooms = lentRooms (zeros 12) (zeros 9) (table 3 (λ _. 0))
+rooms = lentRooms (zeros 12) (zeros 15) (table 3 (λ _. 0))
 
 unfoldable pub stepped : Log → Forcing → StepOut
 stepped log f = stepOf T T-parameters (run (log .state) (log .clock)) f rooms

@@ -24,6 +24,7 @@ const P: Parameters = Parameters {
     tau: 0.0,
     k: 0.0,
     f: 0.0,
+    advection: false,
 };
 
 // The lines taken so far, and the run as they left it.
@@ -76,7 +77,7 @@ fn step(forcing: Forcing, log: Log) -> Took
     let state = log.state;
     let clock = log.clock;
     let mut next = [0.0; 12];
-    let mut work = [0.0; 9];
+    let mut work = [0.0; 15];
     let mut sums = [0u64; 3];
     let reply = surge::step(
         &mut next,

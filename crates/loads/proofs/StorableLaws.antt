@@ -19,6 +19,7 @@ use Rattle.quantities.specs.declared.Forcing.{Forcing}
 use Rattle.quantities.specs.declared.Push.{Push}
 use Rattle.quantities.specs.declared.Flow.{Flow}
 use Rattle.elevation.specs.Elevation.{z′, riseOf}
+use Rattle.quantities.specs.Operations.{Taking}
 use Rattle.velocity.specs.Velocity.{flow, U′ as u′, V′ as v′, flowOf}
 use Rattle.frames.proofs.BackLaws.{value-small}
 use Rattle.mesh.specs.Lent.{Mesh, N}
@@ -90,11 +91,11 @@ all-fit n l s j = go (ltb j (length l)) refl
     go true q = s .values j (ltb-true j _ q)
     go false q = rw (List·getD-eq-default l nan (ltb-false j _ q)) (nan-fits binary64)
 
-flow-fit : (p : Parameters) (kind : ℕ) (x : Push) → T (fits binary64 (flowOf p kind x .u)) × T (fits binary64 (flowOf p kind x .v))
+flow-fit : (less : Taking) (p : Parameters) (kind : ℕ) (x : Push) → T (fits binary64 (flowOf less p kind x .u)) × T (fits binary64 (flowOf less p kind x .v))
 unfolding flowOf flow u′ v′ fits
-flow-fit p kind x = go (eqb kind 2)
+flow-fit less p kind x = go (eqb kind 2)
   where
-    go : (b : Bool) → let w : Flow = cond b (record { u = plus0; v = plus0 }) (flow p x) in T (fits binary64 (w .u)) × T (fits binary64 (w .v))
+    go : (b : Bool) → let w : Flow = cond b (record { u = plus0; v = plus0 }) (flow p x less) in T (fits binary64 (w .u)) × T (fits binary64 (w .v))
     go true = (tt, tt)
     go false = (div-fits binary64 _ _, div-fits binary64 _ _)
 
@@ -105,7 +106,7 @@ module _ (m : Mesh) (p : Parameters) (r : Run) (f : Forcing) (fe : T (fits binar
 
   pub next-state-storable : StorableState (N m) (r .state) → StorableState (N m) (advance m p r f .state)
   unfolding advance nextState flowAt
-  next-state-storable s = four-storable (N m) _ _ _ _ (λ i. all-fit _ _ s (1 * N m + i)) rise-fit (λ i. flow-fit _ _ _ .0) (λ i. flow-fit _ _ _ .1)
+  next-state-storable s = four-storable (N m) _ _ _ _ (λ i. all-fit _ _ s (1 * N m + i)) rise-fit (λ i. flow-fit _ _ _ _ .0) (λ i. flow-fit _ _ _ _ .1)
 
   pub next-clock-storable : T (fits binary64 (f .wx)) → T (fits binary64 (f .wy)) → (r .clock .step ≡ 4294967295 → ⊥) → StorableClock (r .clock)
       → StorableClock (advance m p r f .clock)

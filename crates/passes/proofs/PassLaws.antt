@@ -2,7 +2,7 @@
 use Prim.Native.Nat.{ℕ, _+_, _*_, _^_, _<_, _≤_}
 use mathlib.Core.Path.{_≡_, refl, sym, ap, _∙_}
 use mathlib.Core.List.{List, [], _∷_}
-use mathlib.Core.Bool.{Bool, true, false}
+use mathlib.Core.Bool.{Bool, true, false, cond}
 use native.Mathlib.Omega.{arith}
 use borrow.Author.Tests.{ltb-true, ltb-false}
 use lib.Dec.{ltb, lit<}
@@ -22,9 +22,9 @@ use Rattle.quantities.specs.declared.Node.{Node}
 use Rattle.quantities.specs.declared.Flow.{Flow}
 use Rattle.quantities.specs.declared.Sides.{Sides}
 use Rattle.quantities.specs.declared.Shares.{Shares}
-use Rattle.quantities.specs.Operations.{_⊕_}
+use Rattle.quantities.specs.Operations.{_⊕_, lessIf}
 use Rattle.triangle.specs.declared.Means.{Means}
-use Rattle.triangle.specs.Triangle.{slope, means}
+use Rattle.triangle.specs.Triangle.{slope, means, advection}
 use Rattle.elevation.specs.Elevation.{shares, riseOf}
 use Rattle.geometry.specs.declared.Places.{Places}
 use Rattle.geometry.specs.declared.Corners.{Corners}
@@ -37,25 +37,29 @@ use Rattle.mesh.specs.Geometry.{sides, area}
 use Rattle.mesh.specs.Private.{placesOf, Sound}
 use Rattle.mesh.proofs.SideLaws.{sides-read}
 use Rattle.passes.specs.declared.velocities.Slope.{Slope}
-use Rattle.velocity.specs.Velocity.{flowOf, pushOf}
-use Rattle.passes.specs.Equations.{Given, count, node, kindOf, cornersOf, floatsAt, floating, threeOf, meansAt, sharesAt, R, S, floatS, rise, both, slopeX, slopeY, Px, Py, flowAt, U′, V′}
+use Rattle.velocity.specs.Velocity.{H, H′, r, p, m, q, gx, gy, wx, wy, n, Rx, Ry, U′ as flowU′, V′ as flowV′, flow, flowOf, pushOf}
+use Rattle.passes.specs.Equations.{Given, count, node, kindOf, cornersOf, floatsAt, floating, threeOf, meansAt, sharesAt, R, S, floatS, rise, both, slopeX, slopeY, Px, Py, advectionU, advectionV, Au, Av, pushAt, flowAt, U′, V′}
 use Rattle.outcomes.specs.Outcomes.{riseRow, flowRow}
 use Rattle.passes.specs.Row13.{riseRows, flowRows}
-use Rattle.passes.specs.Private.{Fits, zero, sumRoom, riseRoom, slopeRoom, flowRoom, bothOf, slopeOf}
+use Rattle.passes.specs.Settle.{workRuns}
+use Rattle.passes.specs.Private.{Fits, zero, ifOn, advected, clearRoom, sumRoom, riseRoom, slopeRoom, flowRoom, bothOf, slopeOf, spreadBoth}
 
 -- ---- the work room while a pass is made: the triangles below t, or the nodes below i, are done
 module _ (g : Given) where
+  abbrev pub advectedTo : ℕ → List (ℕ → Float)
+  advectedTo t = ifOn g (gathered floating (cornersOf g) (advectionU g) t) ∷ ifOn g (gathered floating (cornersOf g) (advectionV g) t) ∷ []
+
   abbrev pub sumsTo : ℕ → List Float
-  sumsTo t = runsOf (count g) (gathered floating (cornersOf g) (sharesAt g) t ∷ zero ∷ zero ∷ [])
+  sumsTo t = runsOf (count g) (gathered floating (cornersOf g) (sharesAt g) t ∷ zero ∷ zero ∷ advectedTo t)
 
   abbrev pub risesTo : ℕ → List Float
-  risesTo i = runsOf (count g) (turned i (rise g) (R g) ∷ zero ∷ zero ∷ [])
+  risesTo i = runsOf (count g) (turned i (rise g) (R g) ∷ zero ∷ zero ∷ advected g)
 
   abbrev pub slopesTo : ℕ → List Float
-  slopesTo t = runsOf (count g) (rise g ∷ gathered floating (cornersOf g) (slopeX g) t ∷ gathered floating (cornersOf g) (slopeY g) t ∷ [])
+  slopesTo t = runsOf (count g) (rise g ∷ gathered floating (cornersOf g) (slopeX g) t ∷ gathered floating (cornersOf g) (slopeY g) t ∷ advected g)
 
   abbrev pub flowsTo : ℕ → List Float
-  flowsTo i = runsOf (count g) (rise g ∷ turned i (U′ g) (Px g) ∷ turned i (V′ g) (Py g) ∷ [])
+  flowsTo i = runsOf (count g) (rise g ∷ turned i (U′ g) (Px g) ∷ turned i (V′ g) (Py g) ∷ advected g)
 
   abbrev pub areas : ℕ → Three ℕ
   areas t = alike (area (g .mesh .x) (g .mesh .y) (g .mesh .tri) t)
@@ -94,7 +98,7 @@ module _ (g : Given) (z : Fits g) where
         its-area es ed = ap alike (ed ∙ ap (λ (s : WholeSides). counted (nearD s)) (es ∙ its-sides) ∙ near-count _ (sound .small) (sound .turns))
 
         module _ {s : Sides} {m : Means} (es : s ≡ nearFloats (sidesAt q)) (em : m ≡ means (node g (c .n1)) (node g (c .n2)) (node g (c .n3)) s) where
-          its-means : m ≡ meansAt g t
+          pub its-means : m ≡ meansAt g t
           unfolding meansAt
           its-means =
               em
@@ -102,9 +106,9 @@ module _ (g : Given) (z : Fits g) where
               let k = ec i in
               means (node g (k .first)) (node g (k .second)) (node g (k .third)) ((es ∙ its-floats) i))
 
-          pub its-shares : {v : Shares} → v ≡ shares (g .p) (g .wind) m s → threeOf v ≡ sharesAt g t
+          pub its-shares : {v : Shares} → v ≡ shares (lessIf (g .p .advection)) (g .p) (g .wind) m s → threeOf v ≡ sharesAt g t
           unfolding sharesAt
-          its-shares ev = ap threeOf ev ∙ (λ i. threeOf (shares (g .p) (g .wind) (its-means i) ((es ∙ its-floats) i)))
+          its-shares ev = ap threeOf ev ∙ (λ i. threeOf (shares (sym (z .setting) i) (g .p) (g .wind) (its-means i) ((es ∙ its-floats) i)))
 
     -- z + z' of a corner, and what the triangle adds to Px and to Py
     both-read : {work : List Float} (fs : List (ℕ → Float)) (i : ℕ) → i < count g → work ≡ runsOf (count g) (rise g ∷ fs)
@@ -126,22 +130,42 @@ module _ (g : Given) (z : Fits g) where
               ∙ (λ j. alike (slope (both-read fs (k .first) (b .first) ew j) (both-read fs (k .second) (b .second) ew j) (both-read fs (k .third) (b .third) ew j) (l .a1) (l .a2) (l .a3))),
         )
 
+    -- Au and Av, at either setting
+    module _ (r : ℕ → Float) where
+      abbrev room : Bool → ℕ → List Float
+      room on k =
+          runsOf (count g) (r ∷ zero ∷ zero ∷ cond on (gathered floating (cornersOf g) (advectionU g) k) zero ∷ cond on (gathered floating (cornersOf g) (advectionV g) k) zero ∷ [])
+
+      advection-more : (on : Bool) → cond on (spreadBoth (count g) (cornersOf g t) (advection (meansAt g t)) (room on t)) (room on t) ≡ room on (t + 1)
+      unfolding spreadBoth advectionU advectionV
+      advection-more false = refl
+      advection-more true =
+          let au = gathered floating (cornersOf g) (advectionU g) in
+          let av = gathered floating (cornersOf g) (advectionV g) in
+          ap (spread floating nan (past (4 * count g) (cornersOf g t)) (advectionV g t)) (gather-run floating nan (count g) (r ∷ zero ∷ zero ∷ zero ∷ av t ∷ []) 3 (lit< tt) (cornersOf g) (advectionU g) t (sound .nodes))
+          ∙ gather-run floating nan (count g) (r ∷ zero ∷ zero ∷ au (t + 1) ∷ zero ∷ []) 4 (lit< tt) (cornersOf g) (advectionV g) t (sound .nodes)
+
     -- ---- a turn of a pass over the triangles
     module _ {c : Three ℕ} (ec : c ≡ cornersOf g t) where
-      pub sum-more : {v : Three Float} {work : List Float} → v ≡ sharesAt g t → work ≡ sumsTo g t → spread floating nan (past (0 * count g) c) v work ≡ sumsTo g (t + 1)
-      sum-more ev ew =
+      pub sum-more : {v : Three Float} {m : Means} {work : List Float} → v ≡ sharesAt g t → m ≡ meansAt g t → work ≡ sumsTo g t
+          → let one = spread floating nan (past (0 * count g) c) v work in
+          cond (g .p .advection) (spreadBoth (count g) c (advection m) one) one ≡ sumsTo g (t + 1)
+      sum-more {v} {m} {work} ev em ew =
+          let r = gathered floating (cornersOf g) (sharesAt g) in
+          let first : spread floating nan (past (0 * count g) c) v work ≡ runsOf (count g) (r (t + 1) ∷ zero ∷ zero ∷ advectedTo g t) =
           (λ i. spread floating nan (past (0 * count g) (ec i)) (ev i) (ew i))
-          ∙ gather-run floating nan (count g) (zero ∷ zero ∷ zero ∷ []) 0 (lit< tt) (cornersOf g) (sharesAt g) t (sound .nodes)
+          ∙ gather-run floating nan (count g) (zero ∷ zero ∷ zero ∷ advectedTo g t) 0 (lit< tt) (cornersOf g) (sharesAt g) t (sound .nodes) in
+          (λ i. cond (g .p .advection) (spreadBoth (count g) (ec i) (advection (em i)) (first i)) (first i)) ∙ advection-more (r (t + 1)) (g .p .advection)
 
       pub slope-more : {work : List Float} {s : Sides} {v : Slope} → work ≡ slopesTo g t → s ≡ floatsAt g t → v ≡ slopeOf (count g) (g .state) work c s
           → spread floating nan (past (2 * count g) c) (alike (v .y)) (spread floating nan (past (1 * count g) c) (alike (v .x)) work) ≡ slopesTo g (t + 1)
       slope-more ew es ev =
           let px = gathered floating (cornersOf g) (slopeX g) in
           let py = gathered floating (cornersOf g) (slopeY g) in
-          let its = its-slope (px t ∷ py t ∷ []) ew ec es ev in
+          let its = its-slope (px t ∷ py t ∷ advected g) ew ec es ev in
           (λ i. spread floating nan (past (2 * count g) (ec i)) (its .1 i) (spread floating nan (past (1 * count g) (ec i)) (its .0 i) (ew i)))
-          ∙ ap (spread floating nan (past (2 * count g) (cornersOf g t)) (slopeY g t)) (gather-run floating nan (count g) (rise g ∷ zero ∷ py t ∷ []) 1 (lit< tt) (cornersOf g) (slopeX g) t (sound .nodes))
-          ∙ gather-run floating nan (count g) (rise g ∷ px (t + 1) ∷ zero ∷ []) 2 (lit< tt) (cornersOf g) (slopeY g) t (sound .nodes)
+          ∙ ap (spread floating nan (past (2 * count g) (cornersOf g t)) (slopeY g t)) (gather-run floating nan (count g) (rise g ∷ zero ∷ py t ∷ advected g) 1 (lit< tt) (cornersOf g) (slopeX g) t (sound .nodes))
+          ∙ gather-run floating nan (count g) (rise g ∷ px (t + 1) ∷ zero ∷ advected g) 2 (lit< tt) (cornersOf g) (slopeY g) t (sound .nodes)
 
       pub area-more : {d : ℕ} {l : List ℕ} → alike d ≡ areas g t → l ≡ table (count g) (S-to g t) → spread whole 0 c (alike d) l ≡ table (count g) (S-to g (t + 1))
       area-more ed el = (λ i. spread whole 0 (ec i) (ed i) (el i)) ∙ gather-more whole 0 (count g) (cornersOf g) (areas g) t (sound .nodes)
@@ -174,57 +198,77 @@ module _ (g : Given) (z : Fits g) where
         → v ≡ riseOf (g .p) (kindOf g i) (g .forcing .elevation) c s (inRun (count g) 0 work i) → v ≡ rise g i
     unfolding rise
     its-rise ew ec eS ev =
-        let r = ap (λ (l : List Float). inRun (count g) 0 l i) ew ∙ run-read (count g) (turned i (rise g) (R g) ∷ zero ∷ zero ∷ []) 0 i nan (lit< tt) h ∙ turn-here (rise g) (R g) i in
+        let r = ap (λ (l : List Float). inRun (count g) 0 l i) ew ∙ run-read (count g) (turned i (rise g) (R g) ∷ zero ∷ zero ∷ advected g) 0 i nan (lit< tt) h ∙ turn-here (rise g) (R g) i in
         ev ∙ (λ j. riseOf (g .p) (kindOf g i) (g .forcing .elevation) (ec j) ((eS ∙ its-S) j) (r j))
 
+    -- off, Au and Av are not looked at
+    unread : (on : Bool) (au av : ℕ → Float) → flowOf (lessIf on) (g .p) (kindOf g i) (pushOf (node g i) (g .wind) (g .forcing) (floatS g i) (rise g i) (Px g i) (Py g i) (cond on au zero i) (cond on av zero i)) ≡ flowOf (lessIf on) (g .p) (kindOf g i) (pushOf (node g i) (g .wind) (g .forcing) (floatS g i) (rise g i) (Px g i) (Py g i) (au i) (av i))
+    unfolding flowOf flow flowU′ flowV′ Rx Ry n p q m r wx wy gx gy H H′
+    unread true au av = refl
+    unread false au av = refl
+
     pub its-flow : {work : List Float} {v : Flow} → work ≡ flowsTo g i
-        → v ≡ flowOf (g .p) (kindOf g i) (pushOf (node g i) (g .wind) (g .forcing) (ofInt binary64 (pos (getD sums i 0))) (inRun (count g) 0 work i) (inRun (count g) 1 work i) (inRun (count g) 2 work i))
+        → v ≡ flowOf (lessIf (g .p .advection)) (g .p) (kindOf g i) (pushOf (node g i) (g .wind) (g .forcing) (ofInt binary64 (pos (getD sums i 0))) (inRun (count g) 0 work i) (inRun (count g) 1 work i) (inRun (count g) 2 work i) (inRun (count g) 3 work i) (inRun (count g) 4 work i))
         → v ≡ flowAt g i
     unfolding flowAt
-    its-flow ew ev =
-        let fs = rise g ∷ turned i (U′ g) (Px g) ∷ turned i (V′ g) (Py g) ∷ [] in
-        let rz = ap (λ (l : List Float). inRun (count g) 0 l i) ew ∙ run-read (count g) fs 0 i nan (lit< tt) h in
-        let rx = ap (λ (l : List Float). inRun (count g) 1 l i) ew ∙ run-read (count g) fs 1 i nan (lit< tt) h ∙ turn-here (U′ g) (Px g) i in
-        let ry = ap (λ (l : List Float). inRun (count g) 2 l i) ew ∙ run-read (count g) fs 2 i nan (lit< tt) h ∙ turn-here (V′ g) (Py g) i in
-        ev ∙ (λ j. flowOf (g .p) (kindOf g i) (pushOf (node g i) (g .wind) (g .forcing) (its-S j) (rz j) (rx j) (ry j)))
+    its-flow {work} ew ev =
+        let fs = rise g ∷ turned i (U′ g) (Px g) ∷ turned i (V′ g) (Py g) ∷ advected g in
+        let read : (k : ℕ) → k < workRuns → inRun (count g) k work i ≡ getD fs k (λ _. nan) i = λ k l. ap (λ (l : List Float). inRun (count g) k l i) ew ∙ run-read (count g) fs k i nan l h in
+        let rz = read 0 (lit< tt) in
+        let rx = read 1 (lit< tt) ∙ turn-here (U′ g) (Px g) i in
+        let ry = read 2 (lit< tt) ∙ turn-here (V′ g) (Py g) i in
+        let ru = read 3 (lit< tt) in
+        let rv = read 4 (lit< tt) in
+        ev
+        ∙ (λ j. flowOf (lessIf (g .p .advection)) (g .p) (kindOf g i) (pushOf (node g i) (g .wind) (g .forcing) (its-S j) (rz j) (rx j) (ry j) (ru j) (rv j)))
+        ∙ unread (g .p .advection) (Au g) (Av g)
+        ∙ (λ j. flowOf (sym (z .setting) j) (g .p) (kindOf g i) (pushAt g i))
 
   module _ (i : ℕ) (h : i < count g) {work : List Float} where
     pub rise-more : {v : Float} → work ≡ risesTo g i → v ≡ rise g i → set work (0 * count g + i) v ≡ risesTo g (i + 1)
     rise-more {v} ew ev =
-        ap (λ (l : List Float). set l (0 * count g + i) v) ew ∙ run-turn (count g) (zero ∷ zero ∷ zero ∷ []) 0 (rise g) (R g) i v (lit< tt) h ev
+        ap (λ (l : List Float). set l (0 * count g + i) v) ew ∙ run-turn (count g) (zero ∷ zero ∷ zero ∷ advected g) 0 (rise g) (R g) i v (lit< tt) h ev
 
     pub flow-more : {v : Flow} → work ≡ flowsTo g i → v ≡ flowAt g i → set (set work (1 * count g + i) (v .u)) (2 * count g + i) (v .v) ≡ flowsTo g (i + 1)
     flow-more {v} ew ev =
         ap (λ (l : List Float). set (set l (1 * count g + i) (v .u)) (2 * count g + i) (v .v)) ew
-        ∙ ap (λ (l : List Float). set l (2 * count g + i) (v .v)) (run-turn (count g) (rise g ∷ zero ∷ turned i (V′ g) (Py g) ∷ []) 1 (U′ g) (Px g) i (v .u) (lit< tt) h (ap (λ (f : Flow). f .u) ev))
-        ∙ run-turn (count g) (rise g ∷ turned (i + 1) (U′ g) (Px g) ∷ zero ∷ []) 2 (V′ g) (Py g) i (v .v) (lit< tt) h (ap (λ (f : Flow). f .v) ev)
+        ∙ ap (λ (l : List Float). set l (2 * count g + i) (v .v)) (run-turn (count g) (rise g ∷ zero ∷ turned i (V′ g) (Py g) ∷ advected g) 1 (U′ g) (Px g) i (v .u) (lit< tt) h (ap (λ (f : Flow). f .u) ev))
+        ∙ run-turn (count g) (rise g ∷ turned (i + 1) (U′ g) (Px g) ∷ zero ∷ advected g) 2 (V′ g) (Py g) i (v .v) (lit< tt) h (ap (λ (f : Flow). f .v) ev)
 
 -- ---- before the first turn, and after the last
 module _ (g : Given) where
+  pub sum-none : clearRoom g ≡ sumsTo g 0
+  unfolding gathered
+  sum-none = go (g .p .advection)
+    where
+      go : (on : Bool) → clearRoom g ≡ runsOf (count g) (zero ∷ zero ∷ zero ∷ cond on zero zero ∷ cond on zero zero ∷ [])
+      go true = refl
+      go false = refl
+
   pub rise-none : sumRoom g ≡ risesTo g 0
-  rise-none = sym (ap (λ (f : ℕ → Float). runsOf (count g) (f ∷ zero ∷ zero ∷ [])) (turn-none (rise g) (R g)))
+  rise-none = sym (ap (λ (f : ℕ → Float). runsOf (count g) (f ∷ zero ∷ zero ∷ advected g)) (turn-none (rise g) (R g)))
 
   pub rise-all : risesTo g (count g) ≡ riseRoom g
-  rise-all = run-same (count g) (zero ∷ zero ∷ zero ∷ []) 0 (turned (count g) (rise g) (R g)) (rise g) (turn-all (rise g) (R g) (count g))
+  rise-all = run-same (count g) (zero ∷ zero ∷ zero ∷ advected g) 0 (turned (count g) (rise g) (R g)) (rise g) (turn-all (rise g) (R g) (count g))
 
   pub flow-none : slopeRoom g ≡ flowsTo g 0
-  flow-none = λ j. runsOf (count g) (rise g ∷ sym (turn-none (U′ g) (Px g)) j ∷ sym (turn-none (V′ g) (Py g)) j ∷ [])
+  flow-none = λ j. runsOf (count g) (rise g ∷ sym (turn-none (U′ g) (Px g)) j ∷ sym (turn-none (V′ g) (Py g)) j ∷ advected g)
 
   pub flow-all : flowsTo g (count g) ≡ flowRoom g
   flow-all =
-      run-same (count g) (rise g ∷ zero ∷ turned (count g) (V′ g) (Py g) ∷ []) 1 (turned (count g) (U′ g) (Px g)) (U′ g) (turn-all (U′ g) (Px g) (count g))
-      ∙ run-same (count g) (rise g ∷ U′ g ∷ zero ∷ []) 2 (turned (count g) (V′ g) (Py g)) (V′ g) (turn-all (V′ g) (Py g) (count g))
+      run-same (count g) (rise g ∷ zero ∷ turned (count g) (V′ g) (Py g) ∷ advected g) 1 (turned (count g) (U′ g) (Px g)) (U′ g) (turn-all (U′ g) (Px g) (count g))
+      ∙ run-same (count g) (rise g ∷ U′ g ∷ zero ∷ advected g) 2 (turned (count g) (V′ g) (Py g)) (V′ g) (turn-all (V′ g) (Py g) (count g))
 
   -- row 13, as it is asked of the work room
   pub rises-read : {n : ℕ} {h work : List Float} → h ≡ g .mesh .h → work ≡ riseRoom g → n ≡ count g
       → scan (λ i. riseRow (getD h i nan) (inRun n 0 work i) i) n ≡ riseRows g
   rises-read eh ew en =
       (λ j. scan (λ i. riseRow (getD (eh j) i nan) (inRun (en j) 0 (ew j) i) i) (en j))
-      ∙ scan-same _ _ (count g) (λ i l. ap (λ (v : Float). riseRow (node g i .h) v i) (run-read (count g) (rise g ∷ zero ∷ zero ∷ []) 0 i nan (lit< tt) l))
+      ∙ scan-same _ _ (count g) (λ i l. ap (λ (v : Float). riseRow (node g i .h) v i) (run-read (count g) (rise g ∷ zero ∷ zero ∷ advected g) 0 i nan (lit< tt) l))
 
   pub flows-read : {n : ℕ} {work : List Float} → work ≡ flowRoom g → n ≡ count g
       → scan (λ i. flowRow (record { u = inRun n 1 work i; v = inRun n 2 work i }) i) n ≡ flowRows g
   flows-read ew en =
-      let fs = rise g ∷ U′ g ∷ V′ g ∷ [] in
+      let fs = rise g ∷ U′ g ∷ V′ g ∷ advected g in
       (λ j. scan (λ i. flowRow (record { u = inRun (en j) 1 (ew j) i; v = inRun (en j) 2 (ew j) i }) i) (en j))
       ∙ scan-same _ _ (count g) (λ i l j. flowRow (record { u = run-read (count g) fs 1 i nan (lit< tt) l j; v = run-read (count g) fs 2 i nan (lit< tt) l j }) i)

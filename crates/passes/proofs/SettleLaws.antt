@@ -16,12 +16,13 @@ use Rattle.lists.specs.Private.{withRun}
 use Rattle.rows.specs.Scan.{_then_}
 use Rattle.rows.proofs.ScanLaws.{row-passed, then-first, other-number, both-left, both-right}
 use Rattle.lists.proofs.RunLaws.{run-read, run-put, run-same, runs-alike, as-runs}
+use Rattle.quantities.specs.Operations.{lessIf}
 use Rattle.bounds.specs.State.{stateRuns, runRows}
 use Rattle.bounds.proofs.StateLaws.{AcceptedRun, accepted-run}
 use Rattle.passes.specs.Equations.{Given, count, rise, U′, V′, nextState}
 use Rattle.passes.specs.Row13.{row13}
 use Rattle.passes.specs.Settle.{Rooms, workRuns, row1Rooms, settled, settlesTo, settleOf}
-use Rattle.passes.specs.Private.{Fits, zero, clearRoom, flowRoom}
+use Rattle.passes.specs.Private.{Fits, zero, advected, clearRoom, flowRoom}
 
 -- a cleared work room, as runs
 pub cleared-room : (g : Given) (long : ℕ) {now : List Float} → long ≡ workRuns * count g → now ≡ zeros long → now ≡ clearRoom g
@@ -49,7 +50,7 @@ unfolding nextState
 next-state g ew en =
     let n = count g in
     let z = inRun n 1 (g .state) in
-    let fs = rise g ∷ U′ g ∷ V′ g ∷ [] in
+    let fs = rise g ∷ U′ g ∷ V′ g ∷ advected g in
     let r = flowRoom g in
     let read : (k : ℕ) → k < workRuns → (i : ℕ) → i < n → inRun n k r i ≡ getD fs k (λ _. nan) i = λ k h i l. run-read n fs k i nan h l in
     en
@@ -72,8 +73,8 @@ module _ (g : Given) (also : Answer) (r : Rooms) where
     run : AcceptedRun (row1Rooms r (count g)) (g .mesh) (g .p) (g .state)
     run = accepted-run _ _ _ _ (then-first _ _ ok)
 
-    pub fits : Fits g
-    fits = record { shape = run .shape; state = run .long }
+    pub fits : g .less ≡ lessIf (g .p .advection) → Fits g
+    fits e = record { shape = run .shape; state = run .long; setting = e }
 
     all-three : (isRuns (length (r .next)) stateRuns (count g) && isRuns (length (r .work)) workRuns (count g) && isRuns (length (r .sums)) 1 (count g)) ≡ true
     all-three = row-passed _ 0 0 (run .others)

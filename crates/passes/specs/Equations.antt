@@ -15,9 +15,9 @@ use Rattle.quantities.specs.declared.Sides.{Sides}
 use Rattle.quantities.specs.declared.Shares.{Shares}
 use Rattle.quantities.specs.declared.Push.{Push}
 use Rattle.quantities.specs.declared.Flow.{Flow}
-use Rattle.quantities.specs.Operations.{_⊕_}
+use Rattle.quantities.specs.Operations.{_⊕_, Taking, lessIf}
 use Rattle.triangle.specs.declared.Means.{Means}
-use Rattle.triangle.specs.Triangle.{slope, means}
+use Rattle.triangle.specs.Triangle.{slope, means, advection}
 use Rattle.elevation.specs.Elevation.{shares, riseOf}
 use Rattle.velocity.specs.Velocity.{flowOf, pushOf}
 use Rattle.geometry.specs.Geometry.{floats}
@@ -33,16 +33,17 @@ floating = record { start = plus0; plus = _⊕_ }
 abbrev pub threeOf : Shares → Three Float
 threeOf s = record { first = s .r1; second = s .r2; third = s .r3 }
 
--- what a step reads: a mesh and parameters, the state, the present wind, and a forcing
+-- what a step reads: a mesh and parameters, the state, the present wind, and a forcing; and how it takes an advective term, which the parameters say
 pub record Given : Type 0 where
   pub mesh : Mesh
   pub p : Parameters
   pub state : List Float
   pub wind : Wind
   pub forcing : Forcing
+  pub less : Taking
 
 abbrev pub given : Mesh → Parameters → List Float → Wind → Forcing → Given
-given m p state w f = record { mesh = m; p = p; state = state; wind = w; forcing = f }
+given m p state w f = record { mesh = m; p = p; state = state; wind = w; forcing = f; less = lessIf (p .advection) }
 
 module _ (g : Given) where
   abbrev pub count : ℕ
@@ -70,7 +71,7 @@ module _ (g : Given) where
 
   -- what its corners receive
   unfoldable pub sharesAt : ℕ → Three Float
-  sharesAt t = threeOf (shares (g .p) (g .wind) (meansAt t) (floatsAt t))
+  sharesAt t = threeOf (shares (g .less) (g .p) (g .wind) (meansAt t) (floatsAt t))
 
   -- "R of a node starts at +0 and adds its corner values by ascending triangle number."
   abbrev pub R : ℕ → Float
@@ -111,12 +112,25 @@ module _ (g : Given) where
   abbrev pub Py : ℕ → Float
   Py = gathered floating cornersOf slopeY (E (g .mesh))
 
+  -- Document 02, #103: "a sum from +0 by ascending triangle of Ub·Xu + Vb·Yu …; Ry likewise with Xv and Yv"
+  unfoldable pub advectionU : ℕ → Three Float
+  advectionU t = alike (advection (meansAt t) .u)
+
+  unfoldable pub advectionV : ℕ → Three Float
+  advectionV t = alike (advection (meansAt t) .v)
+
+  abbrev pub Au : ℕ → Float
+  Au = gathered floating cornersOf advectionU (E (g .mesh))
+
+  abbrev pub Av : ℕ → Float
+  Av = gathered floating cornersOf advectionV (E (g .mesh))
+
   -- U' and V' of node i, and what they are made from
   abbrev pub pushAt : ℕ → Push
-  pushAt i = pushOf (node i) (g .wind) (g .forcing) (floatS i) (rise i) (Px i) (Py i)
+  pushAt i = pushOf (node i) (g .wind) (g .forcing) (floatS i) (rise i) (Px i) (Py i) (Au i) (Av i)
 
   unfoldable pub flowAt : ℕ → Flow
-  flowAt i = flowOf (g .p) (kindOf i) (pushAt i)
+  flowAt i = flowOf (g .less) (g .p) (kindOf i) (pushAt i)
 
   abbrev pub U′ : ℕ → Float
   U′ i = flowAt i .u

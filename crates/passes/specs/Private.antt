@@ -1,44 +1,55 @@
 -- What the passes of a step ask and give, for the contracts of the private functions that make them. No public contract cites it.
 use Prim.Native.Nat.{ℕ, _*_}
 use mathlib.Core.Path.{_≡_}
+use mathlib.Core.Bool.{cond}
 use mathlib.Core.List.{List, [], _∷_}
 use lib.ListN.{length}
-use lib.Ieee.{Float}
+use lib.Ieee.{Float, nan}
 use Rattle.rows.specs.Numbers.{plus0}
 use Rattle.lists.specs.Runs.{inRun, runsOf}
-use Rattle.lists.specs.Gather.{Three}
+use Rattle.lists.specs.Gather.{Three, alike}
+use Rattle.lists.specs.Private.{past, spread}
 use Rattle.quantities.specs.declared.Sides.{Sides}
-use Rattle.quantities.specs.Operations.{_⊕_}
+use Rattle.quantities.specs.Operations.{_⊕_, lessIf}
+use Rattle.triangle.specs.declared.Advection.{Advection}
 use Rattle.triangle.specs.Triangle.{slope}
 use Rattle.mesh.specs.Private.{Shaped}
 use Rattle.bounds.specs.State.{stateRuns}
 use Rattle.passes.specs.declared.velocities.Slope.{Slope}
-use Rattle.passes.specs.Equations.{Given, count, R, rise, Px, Py, U′, V′}
+use Rattle.passes.specs.Equations.{Given, floating, count, R, rise, Px, Py, Au, Av, U′, V′}
 
 -- what holds after the tests that come before anything is worked out
 pub record Fits (g : Given) : Type 0 where
   pub shape : Shaped (g .mesh)
   pub state : length (g .state) ≡ stateRuns * count g
+  pub setting : g .less ≡ lessIf (g .p .advection)
 
 -- ---- the work room: before the first pass, and after each
 abbrev pub zero : ℕ → Float
 zero _ = plus0
 
 module _ (g : Given) where
+  -- a sum that is formed only where advection is on, and the runs of Au and Av
+  abbrev pub ifOn : (ℕ → Float) → ℕ → Float
+  ifOn sum = cond (g .p .advection) sum zero
+
+  abbrev pub advected : List (ℕ → Float)
+  advected = ifOn (Au g) ∷ ifOn (Av g) ∷ []
+
   abbrev pub clearRoom : List Float
-  clearRoom = runsOf (count g) (zero ∷ zero ∷ zero ∷ [])
+  clearRoom = runsOf (count g) (zero ∷ zero ∷ zero ∷ zero ∷ zero ∷ [])
 
   abbrev pub sumRoom : List Float
-  sumRoom = runsOf (count g) (R g ∷ zero ∷ zero ∷ [])
+  sumRoom = runsOf (count g) (R g ∷ zero ∷ zero ∷ advected)
 
   abbrev pub riseRoom : List Float
-  riseRoom = runsOf (count g) (rise g ∷ zero ∷ zero ∷ [])
+  riseRoom = runsOf (count g) (rise g ∷ zero ∷ zero ∷ advected)
 
   abbrev pub slopeRoom : List Float
-  slopeRoom = runsOf (count g) (rise g ∷ Px g ∷ Py g ∷ [])
+  slopeRoom = runsOf (count g) (rise g ∷ Px g ∷ Py g ∷ advected)
 
   abbrev pub flowRoom : List Float
-  flowRoom = runsOf (count g) (rise g ∷ U′ g ∷ V′ g ∷ [])
+  flowRoom = runsOf (count g) (rise g ∷ U′ g ∷ V′ g ∷ advected)
 
 -- ---- what a triangle with these corners and sides adds to Px and to Py, with z in the state and z' in the work room
 abbrev pub bothOf : ℕ → List Float → List Float → ℕ → Float
@@ -50,3 +61,7 @@ slopeOf n state work c s =
     let b2 = bothOf n state work (c .second) in
     let b3 = bothOf n state work (c .third) in
     record { x = slope b1 b2 b3 (s .b1) (s .b2) (s .b3); y = slope b1 b2 b3 (s .a1) (s .a2) (s .a3) }
+
+-- ---- what a triangle with these corners adds to Au and to Av, in the fourth and the fifth run
+unfoldable pub spreadBoth : ℕ → Three ℕ → Advection → List Float → List Float
+spreadBoth n c a work = spread floating nan (past (4 * n) c) (alike (a .v)) (spread floating nan (past (3 * n) c) (alike (a .u)) work)

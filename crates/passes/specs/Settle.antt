@@ -13,7 +13,7 @@ use Rattle.bounds.specs.State.{stateRuns, runRows}
 use Rattle.passes.specs.Equations.{Given, count, nextState}
 use Rattle.passes.specs.Row13.{row13}
 
--- "The next state goes to a second lent slice of 4N; work room is 3N binary64 and N 64-bit unsigned."
+-- "The next state goes to a second lent slice of 4N; work room is 3N binary64 and N 64-bit unsigned." Document 02, #103: "Work room grows by 2N binary64."
 pub record Rooms : Type 0 where
   pub next : List Float
   pub work : List Float
@@ -23,7 +23,7 @@ abbrev pub lentRooms : List Float → List Float → List ℕ → Rooms
 lentRooms next work sums = record { next = next; work = work; sums = sums }
 
 abbrev pub workRuns : ℕ
-workRuns = 3
+workRuns = 5
 
 -- | 1 | … a slice of another length |: of these rooms
 abbrev pub row1Rooms : Rooms → ℕ → Answer

@@ -1,4 +1,4 @@
-// "Elevation": R and S of every node in one pass over the triangles, then z'.
+// "Elevation": R and S of every node in one pass over the triangles, and Au and Av, which are made of the same records; then z'.
 use super::reading;
 use super::state;
 use super::sums;
@@ -35,7 +35,8 @@ fn means_at(n: usize, h: &[f64], state: &[f64], c: Corners, s: Sides) -> Means
     triangle::means_of(n1, n2, n3, s)
 }
 
-// R of every node in the first run of the work room, and S in the sums. What is lent may hold anything, and each sum starts at zero.
+// R of every node in the first run of the work room, Au and Av in the last two where advection is on, and S in the sums. What is lent may hold
+// anything, and each sum starts at zero.
 pub(crate) fn assemble(
     work: &mut [f64],
     sums: &mut [u64],
@@ -65,6 +66,7 @@ pub(crate) fn assemble(
         let s = geometry::floats_of(q);
         let m = means_at(n, h, state, c, s);
         sums::spread(work, 0 * n, c, elevation::shares(p, w, m, s));
+        sums::spread_advection(work, n, c, p.advection, m);
         sums::spread_area(sums, c, geometry::area_of(geometry::sides_of(q)));
     }
 }

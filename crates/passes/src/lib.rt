@@ -27,8 +27,8 @@ ghost use Rattle.passes.specs.Row13.{row13};
 ghost use Rattle.passes.specs.Settle.{workRuns, lentRooms, settled, settleOf};
 ghost use Rattle.passes.specs.Private.{Fits, flowRoom};
 
-// The runs of a work room: R and then z', Px and then U', Py and then V'.
-pub const WORK_RUNS: usize = 3;
+// The runs of a work room: R and then z', Px and then U', Py and then V', Au, Av.
+pub const WORK_RUNS: usize = 5;
 
 // Row 13, with z', U' and V' of every node in the work room where it accepts. Every pass is lent all that a step reads, so that its contract can
 // name it as one.

@@ -1,14 +1,19 @@
 // Sums by node: a triangle's values are added at its three corners.
 use geometry::Corners;
 use quantities::Shares;
+use triangle::Means;
 ghost use mathlib.Core.Path.{_≡_};
+ghost use mathlib.Core.Bool.{cond};
 ghost use Prim.Native.Nat.{ℕ, _+_, _*_, _^_, _<_};
 ghost use lib.ListN.{length, getD};
 ghost use lib.Ieee.{nan};
 ghost use Rattle.lists.specs.Gather.{alike, whole};
 ghost use Rattle.lists.specs.Private.{Below, past, addedAt, spread};
 ghost use Rattle.geometry.specs.Private.{nodesOf};
+ghost use Rattle.triangle.specs.Triangle.{advection};
 ghost use Rattle.passes.specs.Equations.{threeOf, floating};
+ghost use Rattle.passes.specs.Settle.{workRuns};
+ghost use Rattle.passes.specs.Private.{spreadBoth};
 
 // Adds a value at one place.
 fn add_at(work: &mut [f64], at: usize, v: f64)
@@ -26,6 +31,29 @@ pub(crate) fn spread(work: &mut [f64], at: usize, c: Corners, v: Shares)
     add_at(work, at + c.n1, v.r1);
     add_at(work, at + c.n2, v.r2);
     add_at(work, at + c.n3, v.r3);
+}
+
+// Each corner receives the same.
+pub(crate) fn alike(v: f64) -> Shares
+    ensures { λ r. ⌜ threeOf r ≡ alike v ⌝ }
+{
+    Shares {
+        r1: v,
+        r2: v,
+        r3: v,
+    }
+}
+
+// Adds what a triangle adds to Au and to Av of its corners, in the fourth and the fifth run of n, where advection is on.
+pub(crate) fn spread_advection(work: &mut [f64], n: usize, c: Corners, on: bool, m: Means)
+    requires { ⌜ (Below (nodesOf c) n) × (length (now work) ≡ workRuns * n) ⌝ }
+    ensures { λ _. ⌜ now (work .exit) ≡ cond on (spreadBoth n (nodesOf c) (advection m) (now (work .entry))) (now (work .entry)) ⌝ }
+{
+    if on {
+        let a = triangle::advection_of(m);
+        spread(work, 3 * n, c, alike(a.u));
+        spread(work, 4 * n, c, alike(a.v));
+    }
 }
 
 // Adds an area at one place.

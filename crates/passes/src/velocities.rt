@@ -6,7 +6,6 @@ use geometry::Corners;
 use quantities::Flow;
 use quantities::Forcing;
 use quantities::Parameters;
-use quantities::Shares;
 use quantities::Sides;
 use quantities::Wind;
 use rows::Answer;
@@ -16,13 +15,13 @@ ghost use lib.ListN.{length, getD};
 ghost use lib.IntN.{pos};
 ghost use lib.Ieee.{binary64, ofInt};
 ghost use Rattle.lists.specs.Table.{table};
-ghost use Rattle.lists.specs.Gather.{alike};
 ghost use Rattle.lists.specs.Private.{Below};
+ghost use Rattle.quantities.specs.Operations.{lessIf};
 ghost use Rattle.velocity.specs.Velocity.{flowOf, pushOf};
 ghost use Rattle.geometry.specs.Private.{nodesOf};
 ghost use Rattle.mesh.specs.Lent.{mesh};
 ghost use Rattle.bounds.specs.State.{stateRuns, nodeOf};
-ghost use Rattle.passes.specs.Equations.{Given, given, count, S, threeOf};
+ghost use Rattle.passes.specs.Equations.{Given, given, count, S};
 ghost use Rattle.passes.specs.Row13.{flowRows};
 ghost use Rattle.passes.specs.Settle.{workRuns};
 ghost use Rattle.passes.specs.Private.{Fits, bothOf, slopeOf, riseRoom, slopeRoom, flowRoom};
@@ -53,17 +52,6 @@ fn slope_of(n: usize, state: &[f64], work: &[f64], c: Corners, s: Sides) -> Slop
     Slope { x, y }
 }
 
-// Each corner receives the same.
-fn alike(v: f64) -> Shares
-    ensures { λ r. ⌜ threeOf r ≡ alike v ⌝ }
-{
-    Shares {
-        r1: v,
-        r2: v,
-        r3: v,
-    }
-}
-
 // Px and Py of every node in the second and the third run of the work room, from zero.
 pub(crate) fn slopes(
     work: &mut [f64],
@@ -89,12 +77,12 @@ pub(crate) fn slopes(
         let c = mesh::reading::corners_at(tri, t);
         let s = geometry::floats_of(reading::places_at(x, y, c));
         let v = slope_of(n, state, work, c, s);
-        sums::spread(work, 1 * n, c, alike(v.x));
-        sums::spread(work, 2 * n, c, alike(v.y));
+        sums::spread(work, 1 * n, c, sums::alike(v.x));
+        sums::spread(work, 2 * n, c, sums::alike(v.y));
     }
 }
 
-// U' and V' of node i, of n, from its z', Px and Py.
+// U' and V' of node i, of n, from its z', Px and Py, Au and Av.
 fn flow_at(
     n: usize,
     h: &[f64],
@@ -107,15 +95,17 @@ fn flow_at(
     rise: f64,
     px: f64,
     py: f64,
+    au: f64,
+    av: f64,
     i: usize,
 ) -> Flow
     requires { ⌜ (i < n) × (length (now h) ≡ n) × (length (now state) ≡ stateRuns * n) ⌝ }
     requires { ⌜ (length (now kind) ≡ n) × (length (now sums) ≡ n) ⌝ }
-    ensures { λ r. ⌜ r ≡ flowOf p (getD (now (kind .entry)) i 0) (pushOf (nodeOf n (now (h .entry)) (now (state .entry)) i) w f (ofInt binary64 (pos (getD (now (sums .entry)) i 0))) rise px py) ⌝ }
+    ensures { λ r. ⌜ r ≡ flowOf (lessIf (p .advection)) p (getD (now (kind .entry)) i 0) (pushOf (nodeOf n (now (h .entry)) (now (state .entry)) i) w f (ofInt binary64 (pos (getD (now (sums .entry)) i 0))) rise px py au av) ⌝ }
 {
     let c = state::node_of(n, h, state, i);
     let s = geometry::sum_of(sums[i]);
-    velocity::flow_of(p, kind[i], c, w, f, s, rise, px, py)
+    velocity::flow_of(p, kind[i], c, w, f, s, rise, px, py, au, av)
 }
 
 // Row 13 of U' and V', where some node is refused: the first of them.
@@ -160,7 +150,9 @@ pub(crate) fn flows(
         let z = work[0 * n + i];
         let px = work[1 * n + i];
         let py = work[2 * n + i];
-        let v = flow_at(n, h, kind, p, state, w, f, sums, z, px, py, i);
+        let au = work[3 * n + i];
+        let av = work[4 * n + i];
+        let v = flow_at(n, h, kind, p, state, w, f, sums, z, px, py, au, av, i);
         work[1 * n + i] = v.u;
         work[2 * n + i] = v.v;
         all = all & (outcomes::flow_row(v, i).number == 0);

@@ -3,12 +3,13 @@
 // The acceleration of gravity, g.
 pub const G: f64 = 9.81;
 
-// The parameters of a run: time step, the report's tau-zero, linear bottom friction K, Coriolis f.
+// The parameters of a run: time step, the report's tau-zero, linear bottom friction K, Coriolis f, and whether the advective terms are on.
 pub struct Parameters {
     pub dt: f64,
     pub tau: f64,
     pub k: f64,
     pub f: f64,
+    pub advection: bool,
 }
 
 // A wind: stress over density.
@@ -51,7 +52,7 @@ pub struct Shares {
     pub r3: f64,
 }
 
-// What a node's velocity is made from: depth, z and z', U and V, Px and Py, S, the wind that is held and the new one.
+// What a node's velocity is made from: depth, z and z', U and V, Px and Py, Au and Av, S, the wind that is held and the new one.
 pub struct Push {
     pub h: f64,
     pub z: f64,
@@ -60,6 +61,8 @@ pub struct Push {
     pub v: f64,
     pub px: f64,
     pub py: f64,
+    pub au: f64,
+    pub av: f64,
     pub s: f64,
     pub wx: f64,
     pub wy: f64,

@@ -27,6 +27,7 @@ each-determined = record {
   lists·slices·copy-determined = λ κs a x y v w p q. (refl, λ i. (same p q i, (tt, tt)));
   triangle·slope-determined = λ κs a x y v w p q. (same p q, refl);
   triangle·means-of-determined = λ κs a x y v w p q. (same p q, refl);
+  triangle·advection-of-determined = λ κs a x y v w p q. (same p q, refl);
   elevation·shares-determined = λ κs a x y v w p q. (same p q, refl);
   elevation·rise-of-determined = λ κs a x y v w p q. (same p q, refl);
   velocity·flow-of-determined = λ κs a x y v w p q. (same p q, refl);
@@ -88,22 +89,22 @@ each-determined = record {
   capi·surge-open-determined = λ κs a x y v w p q.
       let e : after (reply (answer x (v .1 .0) (v .1 .1 .0)) (clock (v .1 .1 .1 .0) (v .1 .1 .1 .1 .0) (v .1 .1 .1 .1 .1 .0))) (v .0) ≡ after (reply (answer y (w .1 .0) (w .1 .1 .0)) (clock (w .1 .1 .1 .0) (w .1 .1 .1 .1 .0) (w .1 .1 .1 .1 .1 .0))) (w .0) = same p q in (
         ap (λ (o : After). o .reply .answer .number) e,
-        λ i. (e i .state, (e i .reply .answer .place, (e i .reply .answer .value, (e i .reply .clock .step, (e i .reply .clock .wx, (e i .reply .clock .wy, (tt, (tt, (tt, (tt, (tt, (tt, (tt, (tt, (tt, tt))))))))))))))),
+        λ i. (e i .state, (e i .reply .answer .place, (e i .reply .answer .value, (e i .reply .clock .step, (e i .reply .clock .wx, (e i .reply .clock .wy, (tt, (tt, (tt, (tt, (tt, (tt, (tt, (tt, (tt, (tt, tt)))))))))))))))),
       );
   capi·surge-step-determined = λ κs a x y v w p q.
       let e : stepOut (reply (answer x (v .1 .1 .1 .0) (v .1 .1 .1 .1 .0)) (clock (v .1 .1 .1 .1 .1 .0) (v .1 .1 .1 .1 .1 .1 .0) (v .1 .1 .1 .1 .1 .1 .1 .0))) (v .0) (v .1 .0) (v .1 .1 .0) ≡ stepOut (reply (answer y (w .1 .1 .1 .0) (w .1 .1 .1 .1 .0)) (clock (w .1 .1 .1 .1 .1 .0) (w .1 .1 .1 .1 .1 .1 .0) (w .1 .1 .1 .1 .1 .1 .1 .0))) (w .0) (w .1 .0) (w .1 .1 .0) = same p q in (
         ap (λ (o : StepOut). o .reply .answer .number) e,
-        λ i. (e i .rooms .next, (e i .rooms .work, (e i .rooms .sums, (e i .reply .answer .place, (e i .reply .answer .value, (e i .reply .clock .step, (e i .reply .clock .wx, (e i .reply .clock .wy, (tt, (tt, (tt, (tt, (tt, (tt, (tt, (tt, (tt, (tt, (tt, (tt, (tt, tt))))))))))))))))))))),
+        λ i. (e i .rooms .next, (e i .rooms .work, (e i .rooms .sums, (e i .reply .answer .place, (e i .reply .answer .value, (e i .reply .clock .step, (e i .reply .clock .wx, (e i .reply .clock .wy, (tt, (tt, (tt, (tt, (tt, (tt, (tt, (tt, (tt, (tt, (tt, (tt, (tt, (tt, tt)))))))))))))))))))))),
       );
   capi·surge-save-determined = λ κs a x y v w p q.
       let e : saveOut (answer x (v .1 .0) (v .1 .1 .0)) (v .0) ≡ saveOut (answer y (w .1 .0) (w .1 .1 .0)) (w .0) = same p q in (
         ap (λ (o : SaveOut). o .answer .number) e,
-        λ i. (e i .text, (e i .answer .place, (e i .answer .value, (tt, (tt, (tt, (tt, (tt, (tt, (tt, (tt, (tt, (tt, (tt, (tt, (tt, tt)))))))))))))))),
+        λ i. (e i .text, (e i .answer .place, (e i .answer .value, (tt, (tt, (tt, (tt, (tt, (tt, (tt, (tt, (tt, (tt, (tt, (tt, (tt, (tt, tt))))))))))))))))),
       );
   capi·surge-load-determined = λ κs a x y v w p q.
       let e : after (reply (answer x (v .1 .0) (v .1 .1 .0)) (clock (v .1 .1 .1 .0) (v .1 .1 .1 .1 .0) (v .1 .1 .1 .1 .1 .0))) (v .0) ≡ after (reply (answer y (w .1 .0) (w .1 .1 .0)) (clock (w .1 .1 .1 .0) (w .1 .1 .1 .1 .0) (w .1 .1 .1 .1 .1 .0))) (w .0) = same p q in (
         ap (λ (o : After). o .reply .answer .number) e,
-        λ i. (e i .state, (e i .reply .answer .place, (e i .reply .answer .value, (e i .reply .clock .step, (e i .reply .clock .wx, (e i .reply .clock .wy, (tt, (tt, (tt, (tt, (tt, (tt, (tt, (tt, (tt, (tt, tt)))))))))))))))),
+        λ i. (e i .state, (e i .reply .answer .place, (e i .reply .answer .value, (e i .reply .clock .step, (e i .reply .clock .wx, (e i .reply .clock .wy, (tt, (tt, (tt, (tt, (tt, (tt, (tt, (tt, (tt, (tt, (tt, tt))))))))))))))))),
       );
   capi·surge-read-forcing-determined = λ κs a x y v w p q.
       let e : taken (answer x (v .0) (v .1 .0)) (forcing (v .1 .1 .0) (v .1 .1 .1 .0) (v .1 .1 .1 .1 .0)) ≡ taken (answer y (w .0) (w .1 .0)) (forcing (w .1 .1 .0) (w .1 .1 .1 .0) (w .1 .1 .1 .1 .0)) = same p q in (

@@ -29,6 +29,8 @@ use Rattle.triangle.proofs.slope.Kinds as triangle·slope-kinds
 use Rattle.triangle.proofs.slope.Reads as triangle·slope-reads
 use Rattle.triangle.proofs.means_of.Kinds as triangle·means-of-kinds
 use Rattle.triangle.proofs.means_of.Reads as triangle·means-of-reads
+use Rattle.triangle.proofs.advection_of.Kinds as triangle·advection-of-kinds
+use Rattle.triangle.proofs.advection_of.Reads as triangle·advection-of-reads
 use Rattle.elevation.proofs.shares.Kinds as elevation·shares-kinds
 use Rattle.elevation.proofs.shares.Reads as elevation·shares-reads
 use Rattle.elevation.proofs.rise_of.Kinds as elevation·rise-of-kinds
@@ -153,6 +155,7 @@ pub record EachDetermined : Type 0 where
   pub lists·slices·copy-determined : Determined lists·slices·copy-kinds.ps lists·slices·copy-kinds.r lists·slices·copy-reads.Post
   pub triangle·slope-determined : Determined triangle·slope-kinds.ps triangle·slope-kinds.r triangle·slope-reads.Post
   pub triangle·means-of-determined : Determined triangle·means-of-kinds.ps triangle·means-of-kinds.r triangle·means-of-reads.Post
+  pub triangle·advection-of-determined : Determined triangle·advection-of-kinds.ps triangle·advection-of-kinds.r triangle·advection-of-reads.Post
   pub elevation·shares-determined : Determined elevation·shares-kinds.ps elevation·shares-kinds.r elevation·shares-reads.Post
   pub elevation·rise-of-determined : Determined elevation·rise-of-kinds.ps elevation·rise-of-kinds.r elevation·rise-of-reads.Post
   pub velocity·flow-of-determined : Determined velocity·flow-of-kinds.ps velocity·flow-of-kinds.r velocity·flow-of-reads.Post

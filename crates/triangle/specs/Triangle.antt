@@ -5,6 +5,7 @@ use Rattle.quantities.specs.Constants.{three}
 use Rattle.quantities.specs.declared.Node.{Node}
 use Rattle.quantities.specs.declared.Sides.{Sides}
 use Rattle.triangle.specs.declared.Means.{Means}
+use Rattle.triangle.specs.declared.Advection.{Advection}
 
 -- "For each triangle, zi* = z minus earlier z, Hi = hi+zi, qxi = Ui·Hi, qyi = Vi·Hi"
 module _ (i : Node) where
@@ -26,7 +27,7 @@ module _ (i : Node) where
 unfoldable pub mean : Float → Float → Float → Float
 mean v1 v2 v3 = ((v1 ⊕ v2) ⊕ v3) ⊘ three
 
--- "(z1·b1 + z2·b2) + z3·b3", the form of Gx, Gy, Sx and Sy, and of what Px and Py add
+-- "(z1·b1 + z2·b2) + z3·b3", the form of Gx, Gy, Sx and Sy, of Xu, Yu, Xv and Yv, and of what Px and Py add
 unfoldable pub slope : Float → Float → Float → Float → Float → Float → Float
 slope v1 v2 v3 c1 c2 c3 = (v1 ⊗ c1 ⊕ v2 ⊗ c2) ⊕ v3 ⊗ c3
 
@@ -52,4 +53,16 @@ module _ (n1 n2 n3 : Node) (s : Sides) where
     -- "Sx = ((z1·z1)·b1 + (z2·z2)·b2) + (z3·z3)·b3, and Sy with a."
     sx = slope (z1 ⊗ z1) (z2 ⊗ z2) (z3 ⊗ z3) b1 b2 b3;
     sy = slope (z1 ⊗ z1) (z2 ⊗ z2) (z3 ⊗ z3) a1 a2 a3;
+    -- Document 02, #103: "Per triangle, Xu = (U1·b1 + U2·b2) + U3·b3, Yu the same with a, and Xv, Yv over V."
+    xu = slope U1 U2 U3 b1 b2 b3;
+    yu = slope U1 U2 U3 a1 a2 a3;
+    xv = slope V1 V2 V3 b1 b2 b3;
+    yv = slope V1 V2 V3 a1 a2 a3;
   }
+
+-- Document 02, #103: "a sum from +0 by ascending triangle of Ub·Xu + Vb·Yu …; Ry likewise with Xv and Yv": what a triangle adds to Au and to Av
+module _ (m : Means) where
+  open Means m using (ub as Ub, vb as Vb, xu as Xu, yu as Yu, xv as Xv, yv as Yv)
+
+  unfoldable pub advection : Advection
+  advection = record { u = Ub ⊗ Xu ⊕ Vb ⊗ Yu; v = Ub ⊗ Xv ⊕ Vb ⊗ Yv }

@@ -2,9 +2,9 @@
 use quantities::Node;
 use quantities::Sides;
 ghost use mathlib.Core.Path.{_≡_};
-ghost use Rattle.triangle.specs.Triangle.{mean, slope, means};
+ghost use Rattle.triangle.specs.Triangle.{mean, slope, means, advection};
 
-// hb, Ub, Vb, Z, Qx, Qy, Gx, Gy, Sx and Sy.
+// hb, Ub, Vb, Z, Qx, Qy, Gx, Gy, Sx and Sy; Xu, Yu, Xv and Yv.
 pub struct Means {
     pub hb: f64,
     pub ub: f64,
@@ -16,6 +16,16 @@ pub struct Means {
     pub gy: f64,
     pub sx: f64,
     pub sy: f64,
+    pub xu: f64,
+    pub yu: f64,
+    pub xv: f64,
+    pub yv: f64,
+}
+
+// What a triangle adds to Au and to Av of its corners.
+pub struct Advection {
+    pub u: f64,
+    pub v: f64,
 }
 
 fn mean(v1: f64, v2: f64, v3: f64) -> f64
@@ -48,5 +58,17 @@ pub fn means_of(n1: Node, n2: Node, n3: Node, s: Sides) -> Means
         gy: slope(n1.z, n2.z, n3.z, s.a1, s.a2, s.a3),
         sx: slope(n1.z * n1.z, n2.z * n2.z, n3.z * n3.z, s.b1, s.b2, s.b3),
         sy: slope(n1.z * n1.z, n2.z * n2.z, n3.z * n3.z, s.a1, s.a2, s.a3),
+        xu: slope(n1.u, n2.u, n3.u, s.b1, s.b2, s.b3),
+        yu: slope(n1.u, n2.u, n3.u, s.a1, s.a2, s.a3),
+        xv: slope(n1.v, n2.v, n3.v, s.b1, s.b2, s.b3),
+        yv: slope(n1.v, n2.v, n3.v, s.a1, s.a2, s.a3),
     }
+}
+
+pub fn advection_of(m: Means) -> Advection
+    ensures { λ r. ⌜ r ≡ advection m ⌝ }
+{
+    let u = m.ub * m.xu + m.vb * m.yu;
+    let v = m.ub * m.xv + m.vb * m.yv;
+    Advection { u, v }
 }

@@ -4,7 +4,7 @@ use mathlib.Core.Bool.{cond}
 use lib.Dec.{eqb}
 use lib.Ieee.{Float}
 use Rattle.rows.specs.Numbers.{plus0}
-use Rattle.quantities.specs.Operations.{_⊕_, _⊖_, _⊗_, _⊘_}
+use Rattle.quantities.specs.Operations.{_⊕_, _⊖_, _⊗_, _⊘_, Taking}
 use Rattle.quantities.specs.Constants.{g, one, two}
 use Rattle.quantities.specs.declared.Parameters.{Parameters}
 use Rattle.quantities.specs.declared.Wind.{Wind}
@@ -15,7 +15,7 @@ use Rattle.quantities.specs.declared.Flow.{Flow}
 
 module _ (run : Parameters) (node : Push) where
   open Parameters run using (dt, k as K, f)
-  open Push node using (h, z, rise as z′, u, v, px as Px, py as Py, s as S, wx as Wx, wy as Wy, «wx_new» as Wx′, «wy_new» as Wy′)
+  open Push node using (h, z, rise as z′, u, v, px as Px, py as Py, au as Au, av as Av, s as S, wx as Wx, wy as Wy, «wx_new» as Wx′, «wy_new» as Wy′)
 
   -- "H = h+z, H' = h+z'."
   unfoldable pub H : Float
@@ -55,13 +55,14 @@ module _ (run : Parameters) (node : Push) where
   n = p ⊗ p ⊕ q ⊗ q
 
   -- U' and V' by their m: `flow` takes the one above, and the statement on K = 0 (demands/specs/Friction) also the one that document 01 had
-  module _ (m : Float) where
-    -- "Rx = ((m·U + q·V) - gx) + wx, Ry = ((m·V - q·U) - gy) + wy"
+  module _ (less : Taking) (m : Float) where
+    -- "Rx = ((m·U + q·V) - gx) + wx, Ry = ((m·V - q·U) - gy) + wy". Document 02, #103: the sum Au "is multiplied by dt, divided by S and taken from Rx
+    -- after gx and before wx; Ry likewise"
     unfoldable pub Rx : Float
-    Rx = ((m ⊗ u ⊕ q ⊗ v) ⊖ gx) ⊕ wx
+    Rx = less ((m ⊗ u ⊕ q ⊗ v) ⊖ gx) ((dt ⊗ Au) ⊘ S) ⊕ wx
 
     unfoldable pub Ry : Float
-    Ry = ((m ⊗ v ⊖ q ⊗ u) ⊖ gy) ⊕ wy
+    Ry = less ((m ⊗ v ⊖ q ⊗ u) ⊖ gy) ((dt ⊗ Av) ⊘ S) ⊕ wy
 
     -- "U' = (p·Rx + q·Ry)/n, V' = (p·Ry - q·Rx)/n."
     unfoldable pub U′ : Float
@@ -73,19 +74,19 @@ module _ (run : Parameters) (node : Push) where
     abbrev pub flowBy : Flow
     flowBy = record { u = U′; v = V′ }
 
-  unfoldable pub flow : Flow
-  flow = flowBy m
+  unfoldable pub flow : Taking → Flow
+  flow less = flowBy less m
 
 -- of a node of this kind: "At kind 2 both are +0."
 abbrev pub ofKind : ℕ → Flow → Flow
 ofKind kind v = cond (eqb kind 2) (record { u = plus0; v = plus0 }) v
 
-unfoldable pub flowOf : Parameters → ℕ → Push → Flow
-flowOf run kind x = ofKind kind (flow run x)
+unfoldable pub flowOf : Taking → Parameters → ℕ → Push → Flow
+flowOf less run kind x = ofKind kind (flow run x less)
 
--- what they are made from: a node, the present wind and the forcing's new one, S, z', Px and Py
-abbrev pub pushOf : Node → Wind → Forcing → Float → Float → Float → Float → Push
-pushOf c w f s rise px py = record {
+-- what they are made from: a node, the present wind and the forcing's new one, S, z', Px and Py, Au and Av
+abbrev pub pushOf : Node → Wind → Forcing → Float → Float → Float → Float → Float → Float → Push
+pushOf c w f s rise px py au av = record {
   h = c .h;
   z = c .z;
   rise = rise;
@@ -93,6 +94,8 @@ pushOf c w f s rise px py = record {
   v = c .v;
   px = px;
   py = py;
+  au = au;
+  av = av;
   s = s;
   wx = w .x;
   wy = w .y;

@@ -7,11 +7,23 @@ use quantities::Parameters;
 use quantities::Push;
 use quantities::Wind;
 ghost use mathlib.Core.Path.{_≡_};
+ghost use Rattle.quantities.specs.Operations.{_⊗_, _⊘_, lessIf};
 ghost use Rattle.velocity.specs.Velocity.{flow, flowOf, pushOf};
+
+// With the advective term of a node's sum Au or Av taken, where the setting is on.
+fn carried(run: Parameters, from: f64, sum: f64, s: f64) -> f64
+    ensures { λ x. ⌜ x ≡ lessIf (run .advection) from ((run .dt ⊗ sum) ⊘ s) ⌝ }
+{
+    if run.advection {
+        from - (run.dt * sum) / s
+    } else {
+        from
+    }
+}
 
 // The two are solved as a pair: each is made from Rx and Ry, and V' never from U'.
 fn flow(run: Parameters, node: Push) -> Flow
-    ensures { λ x. ⌜ x ≡ flow run node ⌝ }
+    ensures { λ x. ⌜ x ≡ flow run node (lessIf (run .advection)) ⌝ }
 {
     let column = node.h + node.z;
     let column_new = node.h + node.rise;
@@ -23,15 +35,17 @@ fn flow(run: Parameters, node: Push) -> Flow
     let gy = ((G * run.dt) * node.py) / (2.0 * node.s);
     let wx = (run.dt * (node.wx_new / column_new + node.wx / column)) / 2.0;
     let wy = (run.dt * (node.wy_new / column_new + node.wy / column)) / 2.0;
-    let rx = ((m * node.u + q * node.v) - gx) + wx;
-    let ry = ((m * node.v - q * node.u) - gy) + wy;
+    let pulled_x = (m * node.u + q * node.v) - gx;
+    let pulled_y = (m * node.v - q * node.u) - gy;
+    let rx = carried(run, pulled_x, node.au, node.s) + wx;
+    let ry = carried(run, pulled_y, node.av, node.s) + wy;
     let n = p * p + q * q;
     let u = (p * rx + q * ry) / n;
     let v = (p * ry - q * rx) / n;
     Flow { u, v }
 }
 
-// U' and V' of a node, from its sum S, its z', Px and Py. A held land node's are chosen last, so that the loop over the nodes has no branch.
+// U' and V' of a node, from its sum S, its z', Px and Py, Au and Av. A held land node's are chosen last, so that the loop over the nodes has no branch.
 pub fn flow_of(
     run: Parameters,
     kind: u8,
@@ -42,8 +56,10 @@ pub fn flow_of(
     rise: f64,
     px: f64,
     py: f64,
+    au: f64,
+    av: f64,
 ) -> Flow
-    ensures { λ x. ⌜ x ≡ flowOf run kind (pushOf c w f s rise px py) ⌝ }
+    ensures { λ x. ⌜ x ≡ flowOf (lessIf (run .advection)) run kind (pushOf c w f s rise px py au av) ⌝ }
 {
     let node = Push {
         h: c.h,
@@ -53,6 +69,8 @@ pub fn flow_of(
         v: c.v,
         px,
         py,
+        au,
+        av,
         s,
         wx: w.x,
         wy: w.y,

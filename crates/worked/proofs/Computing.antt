@@ -5,7 +5,7 @@ use Rattle.lists.specs.Runs.{runsOf}
 use Rattle.rows.specs.Scan.{row, _then_, scan, some}
 use Rattle.rows.specs.Numbers.{within, decimal, minus}
 use Rattle.lists.specs.Gather.{joined, gathered}
-use Rattle.triangle.specs.Triangle.{z*, H as Hi, qx, qy, mean, slope, means}
+use Rattle.triangle.specs.Triangle.{z*, H as Hi, qx, qy, mean, slope, means, advection}
 use Rattle.elevation.specs.Elevation.{Jx, Jy, corner, shares, L, z′, riseOf}
 use Rattle.velocity.specs.Velocity.{H, H′, r, p, m, q, gx, gy, wx, wy, Rx, Ry, n, U′, V′, flow, flowOf}
 use Rattle.outcomes.specs.Outcomes.{ofRise, speed, riseRow, flowRow}
@@ -21,7 +21,7 @@ use Rattle.legs.specs.Legs.{isLeg, row6}
 use Rattle.nodes.specs.Rows.{isNamed, row7, row8, nodeRows, meshRows, openRows}
 use Rattle.surge.specs.Open.{openAnswer, openOf}
 use Rattle.bounds.specs.State.{row10, runRows}
-use Rattle.passes.specs.Equations.{meansAt, sharesAt, rise, slopeX, slopeY, flowAt, nextState}
+use Rattle.passes.specs.Equations.{meansAt, sharesAt, rise, slopeX, slopeY, advectionU, advectionV, flowAt, nextState}
 use Rattle.passes.specs.Row13.{row13}
 use Rattle.surge.specs.Step.{advance, clockRows, stepRows, stepsTo, stepOf}
 use Rattle.saves.specs.Lines.{startOf}
@@ -41,11 +41,11 @@ unfolding sides allNear row1 row2 allBelow row3 row4 row5 triangleRows isLeg row
 the-rows = tt
 
 unfoldable pub the-formulas : Unit {0}
-unfolding z* Hi qx qy mean slope means Jx Jy corner shares L z′ H H′ r p m q gx gy wx wy Rx Ry n U′ V′ flow ofRise speed
+unfolding z* Hi qx qy mean slope means advection Jx Jy corner shares L z′ H H′ r p m q gx gy wx wy Rx Ry n U′ V′ flow ofRise speed
 the-formulas = tt
 
 unfoldable pub the-equations : Unit {0}
-unfolding sides area floats riseOf flowOf meansAt sharesAt rise slopeX slopeY flowAt nextState riseRow flowRow row13 advance
+unfolding sides area floats riseOf flowOf meansAt sharesAt rise slopeX slopeY advectionU advectionV flowAt nextState riseRow flowRow row13 advance
 the-equations = tt
 
 unfoldable pub the-frames : Unit {0}

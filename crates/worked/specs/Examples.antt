@@ -1,6 +1,7 @@
 -- Document 01, "Examples": those marked P, as one table. Each entry has what the definitions give beside what the document says.
 use Prim.Native.Nat.{ℕ, _%_}
 use mathlib.Core.Path.{_≡_}
+use mathlib.Core.Bool.{false}
 use mathlib.Core.List.{List, [], _∷_, _++_, map}
 use lib.IntN.{ℤ, pos, negsuc}
 use lib.ListN.{length, replicate}
@@ -43,7 +44,7 @@ abbrev pub like-T : List ℤ → List ℤ → List ℕ → Mesh
 like-T x y tri = mesh x y tri (replicate (length x) (decimal 8 1)) (replicate (length x) 0)
 
 abbrev pub T-parameters : Parameters
-T-parameters = record { dt = decimal 1 1; tau = decimal 0 1; k = decimal 0 1; f = decimal 0 1 }
+T-parameters = record { dt = decimal 1 1; tau = decimal 0 1; k = decimal 0 1; f = decimal 0 1; advection = false }
 
 -- T's coordinates, with corner 1 at x
 abbrev pub T-x : ℕ → List ℤ
@@ -56,9 +57,9 @@ T-y = pos 0 ∷ pos 0 ∷ pos 100 ∷ []
 abbrev pub T : Mesh
 T = like-T (T-x 100) T-y (0 ∷ 1 ∷ 2 ∷ [])
 
--- T's next state and work room: "4N", "3N binary64 and N 64-bit unsigned"
+-- T's next state and work room: "4N", "3N binary64 and N 64-bit unsigned", which "grows by 2N binary64"
 abbrev pub T-rooms : Rooms
-T-rooms = lentRooms (zeros 12) (zeros 9) (table 3 (λ _. 0))
+T-rooms = lentRooms (zeros 12) (zeros 15) (table 3 (λ _. 0))
 
 abbrev pub geometry : Mesh → Outcome
 geometry m = let s = sides (m .x) (m .y) (corners (m .tri) 0) in triangle s (D s)

@@ -4,9 +4,11 @@ use Rattle.capi.proofs.surge_step.Statement.{statement}
 use Rattle.capi.proofs.surge_step.Tie as tie
 
 returns : tie.Need-returns
-returns c = step-handed _ _ (c .hand-back .ensures) _ _ _ _ (c .before .before .before .before .before .before .before .before .before .before .before .before .step .ensures)
+returns c =
+    let s = c .before .before .before .before .before .before .before .before .before .before .before .before in
+    step-handed _ _ (c .hand-back .ensures) _ _ _ _ (rw (s .step .ensures, s .before .before .before .before .before .parameters .ensures))
 
 pub surge-step-spec : {M : Type 1} → statement M
 surge-step-spec =
     tie.close
-    (tie.spec (λ c κs. search needs) (λ c κs. search needs) (λ c. search needs) (λ c. search needs) (λ c. search needs) returns)
+    (tie.spec (λ c κs. tt) (λ c κs. search needs) (λ c κs. search needs) (λ c. search needs) (λ c. search needs) (λ c. search needs) returns)

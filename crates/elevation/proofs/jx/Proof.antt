@@ -1,4 +1,3 @@
-use mathlib.Core.Path.{refl}
 use lib.Ieee.{round, ofBits}
 use Rattle.rows.specs.Numbers.{decimal}
 use Rattle.elevation.specs.Elevation.{Jx}
@@ -7,7 +6,7 @@ use Rattle.elevation.proofs.jx.Tie as tie
 
 returns : tie.Need-returns
 unfolding Jx decimal round ofBits
-returns c = refl
+returns c = rw (c .before .before .before .before .before .before .before .before .carried .ensures)
 
 pub jx-spec : {M : Type 1} → statement M
-jx-spec = tie.close (tie.spec returns)
+jx-spec = tie.close (tie.spec (λ c κs. tt) returns)

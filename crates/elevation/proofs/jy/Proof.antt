@@ -1,4 +1,3 @@
-use mathlib.Core.Path.{refl}
 use lib.Ieee.{round, ofBits}
 use Rattle.rows.specs.Numbers.{decimal}
 use Rattle.elevation.specs.Elevation.{Jy}
@@ -7,7 +6,7 @@ use Rattle.elevation.proofs.jy.Tie as tie
 
 returns : tie.Need-returns
 unfolding Jy decimal round ofBits
-returns c = refl
+returns c = rw (c .before .before .before .before .before .before .before .before .carried .ensures)
 
 pub jy-spec : {M : Type 1} → statement M
-jy-spec = tie.close (tie.spec returns)
+jy-spec = tie.close (tie.spec (λ c κs. tt) returns)

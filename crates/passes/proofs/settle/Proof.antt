@@ -1,4 +1,4 @@
-use mathlib.Core.Path.{_≡_, ap, _∙_}
+use mathlib.Core.Path.{_≡_, refl, ap, _∙_}
 use mathlib.Core.Bool.{_&&_}
 use borrow.Author.Needs.{needs}
 use Rattle.rows.specs.declared.Answer.{Answer}
@@ -38,7 +38,7 @@ work-out-requires c κs =
     let k = c .before .before .before in
     let s = start (k .before .before) in
     let ok = passed k in
-    (fits (its s) (s .args .also) (lent s) ok, (next-long (its s) (s .args .also) (lent s) ok, work-long (its s) (s .args .also) (lent s) ok, sums-long (its s) (s .args .also) (lent s) ok))
+    (fits (its s) (s .args .also) (lent s) ok refl, (next-long (its s) (s .args .also) (lent s) ok, work-long (its s) (s .args .also) (lent s) ok, sums-long (its s) (s .args .also) (lent s) ok))
 
 returns-2 : tie.Need-returns-2
 returns-2 c =

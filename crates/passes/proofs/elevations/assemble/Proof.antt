@@ -1,21 +1,25 @@
 use Prim.Native.Nat.{ℕ, _-_, _*_, _≤_}
-use mathlib.Core.Path.{_≡_, sym, ap, _∙_}
+use mathlib.Core.Path.{_≡_, refl, sym, ap, _∙_}
+use mathlib.Core.Bool.{cond}
+use mathlib.Core.List.{List}
 use native.Mathlib.Omega.{arith}
 use borrow.Author.Needs.{needs}
 use lib.Dec.{lit<}
 use lib.ListN.{length}
+use lib.Ieee.{Float}
 use Rattle.lists.specs.Table.{table}
 use Rattle.lists.specs.Gather.{gathered}
 use Rattle.lists.proofs.TableLaws.{length-table}
 use Rattle.lists.proofs.RunLaws.{runs-length}
 use Rattle.quantities.specs.declared.Forcing.{Forcing}
+use Rattle.triangle.specs.Triangle.{advection}
 use Rattle.geometry.specs.Private.{nodesOf}
 use Rattle.mesh.specs.Lent.{mesh, E}
 use Rattle.mesh.proofs.SideLaws.{corners-read}
 use Rattle.passes.specs.Equations.{Given, given, count, cornersOf}
 use Rattle.passes.specs.Settle.{workRuns}
-use Rattle.passes.specs.Private.{Fits}
-use Rattle.passes.proofs.PassLaws.{sumsTo, S-to, in-run, inside, its-area, its-shares, sum-more, area-more, S-room}
+use Rattle.passes.specs.Private.{Fits, spreadBoth}
+use Rattle.passes.proofs.PassLaws.{sumsTo, S-to, in-run, inside, its-area, its-means, its-shares, sum-more, area-more, S-room, sum-none}
 use Rattle.passes.proofs.SettleLaws.{cleared-room}
 use Rattle.passes.proofs.elevations.assemble.Statement.{statement}
 use Rattle.passes.proofs.elevations.assemble.Tie as tie
@@ -35,7 +39,7 @@ abbrev start : tie.At-loop Inv-loop μ-loop → tie.Start Inv-loop μ-loop
 start l = l .before .before .before .before .before .before .before .before .before .before .before .before .before .before .before
 
 fits : (l : tie.At-loop Inv-loop μ-loop) (f : Forcing) → Fits (its (start l) f)
-fits l f = let z = start l .pre .0 in record { shape = z .shape; state = z .state }
+fits l f = let z = start l .pre .0 in record { shape = z .shape; state = z .state; setting = refl }
 
 long : (l : tie.At-loop Inv-loop μ-loop) → length (l .loop .work) ≡ workRuns * length (start l .args .x .now)
 long l = ap length (l .loop .inv .1 (start l .args .f) .0) ∙ runs-length _ _
@@ -51,7 +55,7 @@ loop-holds : tie.Need-loop-holds Inv-loop μ-loop
 unfolding gathered
 loop-holds c =
     let s = c .before .before .before .before .before .before .before .before .before .before .before .before .before .before in
-    (omega arith, λ f. (cleared-room (its s f) _ (s .pre .1 .0) (c .before .before .before .before .before .before .clear .ensures), c .before .before .clear-whole .ensures ∙ ap (λ (n : ℕ). table n (λ _. 0)) (s .pre .1 .1)))
+    (omega arith, λ f. (cleared-room (its s f) _ (s .pre .1 .0) (c .before .before .before .before .before .before .clear .ensures) ∙ sum-none (its s f), c .before .before .clear-whole .ensures ∙ ap (λ (n : ℕ). table n (λ _. 0)) (s .pre .1 .1)))
 
 places-at-requires : tie.Need-places-at-requires Inv-loop μ-loop
 places-at-requires c κs =
@@ -72,8 +76,15 @@ spread-requires c κs =
     let l = k .before .before in
     rw (long l) (in-run 0 workRuns (lit< tt) (inside _ (fits l (start l .args .f)) _ (k .before .loop-test .taken) (corner k)))
 
+spread-advection-requires : tie.Need-spread-advection-requires Inv-loop μ-loop
+spread-advection-requires c κs =
+    let first = c .before .before .before in
+    let k = first .before .before .before .before .before .before in
+    let l = k .before .before in
+    (inside _ (fits l (start l .args .f)) _ (k .before .loop-test .taken) (corner k), first .spread .kept .0 ∙ long l)
+
 abbrev back : tie.After-area-of Inv-loop μ-loop → tie.After-places-at Inv-loop μ-loop
-back c = c .before .before .before .before .before .before .before .before .before .before
+back c = c .before .before .before .before .before .before .before .before .before .before .before .before .before .before
 
 spread-area-requires : tie.Need-spread-area-requires Inv-loop μ-loop
 spread-area-requires c κs =
@@ -91,15 +102,17 @@ loop-again c =
     let q = back d in
     let k = q .before in
     let l = k .before .before in
-    let first = d .before .before .before .before .before in
+    let both = d .before .before .before .before .before in
+    let first = both .before .before .before .before in
     let m = first .before .before .before in
     let h = k .before .loop-test .taken in (
       omega (arith, h),
       λ f.
           let z = fits l f in
           let inv = l .loop .inv .1 f in (
-            first .spread .ensures
-                ∙ sum-more _ z _ h (corner k) (its-shares _ z _ h (corner k) (q .places-at .ensures) (m .before .floats-of .ensures) (m .means-at .ensures) (first .before .shares .ensures)) (inv .0),
+            both .spread-advection .ensures
+                ∙ ap (λ (w : List Float). cond (start l .args .p .advection) (spreadBoth (length (start l .args .x .now)) (nodesOf (k .corners-at .result)) (advection (m .means-at .result)) w) w) (first .spread .ensures)
+                ∙ sum-more _ z _ h (corner k) (its-shares _ z _ h (corner k) (q .places-at .ensures) (m .before .floats-of .ensures) (m .means-at .ensures) (first .before .shares .ensures)) (its-means _ z _ h (corner k) (q .places-at .ensures) (m .before .floats-of .ensures) (m .means-at .ensures)) (inv .0),
             c .before .before .spread-area .ensures
                 ∙ area-more _ z _ h (corner k) (its-area _ z _ h (corner k) (q .places-at .ensures) (d .before .sides-of .ensures) (d .area-of .ensures)) (inv .1),
           ),
@@ -117,7 +130,7 @@ returns c =
 pub assemble-spec : {M : Type 1} → statement M
 assemble-spec =
     tie.close
-    (tie.spec Inv-loop μ-loop (λ c κs. tt) (λ c κs. tt) loop-holds (λ c κs. tt) places-at-requires (λ c κs. tt) means-at-requires (λ c. search needs) (λ c κs. tt) spread-requires (λ c κs. tt) (λ c κs. tt) spread-area-requires
+    (tie.spec Inv-loop μ-loop (λ c κs. tt) (λ c κs. tt) loop-holds (λ c κs. tt) places-at-requires (λ c κs. tt) means-at-requires (λ c. search needs) (λ c κs. tt) spread-requires spread-advection-requires (λ c κs. tt) (λ c κs. tt) spread-area-requires
     (λ c. let k = back (c .before .before .before) .before in record { fits = omega (arith, k .before .loop-test .taken, fits (k .before .before) (start (k .before .before) .args .f) .shape .sized .most-triangles) })
-    (λ c. omega arith) loop-again (λ c. let l = c .before in long l ∙ sym (start l .pre .1 .0))
+    (λ c. omega (arith, back (c .before .before .before) .before .before .loop-test .taken)) loop-again (λ c. let l = c .before in long l ∙ sym (start l .pre .1 .0))
     (λ c. let l = c .before in sums-long l ∙ sym (start l .pre .1 .1)) returns)

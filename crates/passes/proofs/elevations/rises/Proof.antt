@@ -80,7 +80,7 @@ loop-again c =
           let g = its (start l) w in
           let v = l .loop .inv .1 w e q in
           let y = fits l in
-          let z′ : Fits g = record { shape = y .shape; state = y .state } in
+          let z′ : Fits g = record { shape = y .shape; state = y .state; setting = refl } in
           let r = its-rise g z′ (l .loop .i) h q (v .0) (k .node-of .ensures) (s .sum-of .ensures) (z .rise-of .ensures) in
           let asked = a .rise-row .ensures ∙ (λ j. riseRow (k .node-of .ensures j .h) (r j) (l .loop .i)) in
           (rise-more g z′ (l .loop .i) h (v .0) r, all-more (rowAt g) _ (v .1) (ap (λ (a : Answer). eqb (a .number) 0) asked)),

@@ -60,7 +60,7 @@ loop-again : tie.Need-loop-again Inv-loop μ-loop
 loop-again c =
     let a = c .before in
     let v = a .before in
-    let t = v .before .before .before .before in
+    let t = v .before .before .before .before .before .before in
     let l = t .before in
     let g = here l in
     let i = l .loop .i in
@@ -89,19 +89,26 @@ flows-spec =
     (λ c. let m = long (c .before .before .before) in search needs) (λ c. let m = long (c .before .before .before) in search needs)
     (λ c. let m = long (c .before .before .before) in search needs)
     (λ c. let t = c .before .before .before in omega (arith, long (t .before), t .loop-test .taken))
-    (λ c κs.
-    let t = c .before .before .before in
-    let s = start (t .before) in
-    let z = fits (t .before) in
-    ((t .loop-test .taken, z .shape .sized .h, z .state), (z .shape .sized .kind, ap length (s .pre .1 .1) ∙ length-table _ _)))
-    (λ c. let m = long (c .before .before .before .before .before) in search needs)
-    (λ c. let m = long (c .before .before .before .before .before) in search needs)
-    (λ c. let m = long (c .before .before .before .before .before) in search needs)
+    (λ c. let m = long (c .before .before .before .before) in search needs) (λ c. let m = long (c .before .before .before .before) in search needs)
+    (λ c. let m = long (c .before .before .before .before) in search needs)
     (λ c. let t = c .before .before .before .before in omega (arith, long (t .before), t .loop-test .taken))
     (λ c. let m = long (c .before .before .before .before .before) in search needs)
     (λ c. let m = long (c .before .before .before .before .before) in search needs)
     (λ c. let m = long (c .before .before .before .before .before) in search needs)
-    (λ c. let t = c .before .before .before .before in simp length-set (omega (arith, long (t .before), t .loop-test .taken))) (λ c κs. tt)
-    (λ c. let t = c .before .before .before .before .before .before in record { fits = omega (arith, t .loop-test .taken, fits (t .before) .shape .sized .most-nodes) })
+    (λ c. let t = c .before .before .before .before .before in omega (arith, long (t .before), t .loop-test .taken))
+    (λ c κs.
+    let t = c .before .before .before .before .before in
+    let s = start (t .before) in
+    let z = fits (t .before) in
+    ((t .loop-test .taken, z .shape .sized .h, z .state), (z .shape .sized .kind, ap length (s .pre .1 .1) ∙ length-table _ _)))
+    (λ c. let m = long (c .before .before .before .before .before .before .before) in search needs)
+    (λ c. let m = long (c .before .before .before .before .before .before .before) in search needs)
+    (λ c. let m = long (c .before .before .before .before .before .before .before) in search needs)
+    (λ c. let t = c .before .before .before .before .before .before in omega (arith, long (t .before), t .loop-test .taken))
+    (λ c. let m = long (c .before .before .before .before .before .before .before) in search needs)
+    (λ c. let m = long (c .before .before .before .before .before .before .before) in search needs)
+    (λ c. let m = long (c .before .before .before .before .before .before .before) in search needs)
+    (λ c. let t = c .before .before .before .before .before .before in simp length-set (omega (arith, long (t .before), t .loop-test .taken))) (λ c κs. tt)
+    (λ c. let t = c .before .before .before .before .before .before .before .before in record { fits = omega (arith, t .loop-test .taken, fits (t .before) .shape .sized .most-nodes) })
     (λ c. omega arith) loop-again (λ c κs. tt) (λ c κs. long (c .before .before .before)) (λ c. same (c .before .before .before)) returns
     (λ c. same (c .before .before .before .before)) returns-2)

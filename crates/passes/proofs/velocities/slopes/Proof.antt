@@ -1,5 +1,5 @@
 use Prim.Native.Nat.{_-_, _*_, _≤_}
-use mathlib.Core.Path.{_≡_, sym, ap, _∙_}
+use mathlib.Core.Path.{_≡_, refl, sym, ap, _∙_}
 use native.Mathlib.Omega.{arith}
 use lib.Dec.{lit<}
 use lib.ListN.{length}
@@ -72,7 +72,7 @@ loop-again c =
       λ p w f e.
           let g = its (start l) p w f in
           let y = fits l in
-          let z : Fits g = record { shape = y .shape; state = y .state } in
+          let z : Fits g = record { shape = y .shape; state = y .state; setting = refl } in
           second .spread2 .ensures
           ∙ (λ i. spread floating nan (past (2 * n) at) (second .before .alike2 .ensures i) ((first .spread .ensures ∙ ap (λ (a : Three Float). spread floating nan (past (1 * n) at) a (l .loop .work)) (first .before .alike .ensures)) i))
           ∙ slope-more g z _ h (corner k) (l .loop .inv .1 p w f e) (v .before .before .floats-of .ensures ∙ its-floats g z _ h (corner k) (q .places-at .ensures)) (v .slope-of .ensures),
