@@ -1,5 +1,6 @@
 pub mod Demand1Proof
 pub mod Demand2Proof
 pub mod FrictionProof
+pub mod AdvectionProof
 pub mod RoundTripProof
 pub mod Demand3Proof

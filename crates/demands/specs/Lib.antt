@@ -2,5 +2,6 @@ pub mod Contracts
 pub mod Demand1
 pub mod Demand2
 pub mod Friction
+pub mod Advection
 pub mod RoundTrip
 pub mod Demand3

@@ -4,6 +4,7 @@ use Rattle.statements.specs.Determined.{EachDetermined, EachCallAsksNoth
 use Rattle.demands.specs.Demand1.{Demand1}
 use Rattle.demands.specs.Demand2.{Demand2, FloatsWithoutLoss}
 use Rattle.demands.specs.Friction.{SameAtZeroFriction}
+use Rattle.demands.specs.Advection.{OffGivesEarlier}
 use Rattle.demands.specs.RoundTrip.{SavedIsLoaded, SameTextSameRun, LoadedIsSaved}
 use Rattle.demands.specs.Demand3.{Demand3AtSurge, AnySaveAtSurge, OpensCold, OwnSavesLoad, HeldRunsSave}
 use Rattle.worked.specs.Computed.{ComputedHolds, LatestHolds}
@@ -19,6 +20,7 @@ pub record EveryStatement : Type 0 where
   pub demand2 : Demand2
   pub floats-without-loss : FloatsWithoutLoss
   pub same-at-zero-friction : SameAtZeroFriction
+  pub off-gives-earlier : OffGivesEarlier
   pub saved-is-loaded : SavedIsLoaded
   pub same-text-same-run : SameTextSameRun
   pub loaded-is-saved : LoadedIsSaved

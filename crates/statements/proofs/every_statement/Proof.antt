@@ -6,6 +6,7 @@ use Rattle.statements.proofs.Outcomes.{each-determined, each-call-asks-
 use Rattle.demands.proofs.Demand1Proof.{demand1}
 use Rattle.demands.proofs.Demand2Proof.{demand2, floats-without-loss}
 use Rattle.demands.proofs.FrictionProof.{same-at-zero-friction}
+use Rattle.demands.proofs.AdvectionProof.{off-gives-earlier}
 use Rattle.demands.proofs.RoundTripProof.{saved-is-loaded, same-text-same-run, loaded-is-saved}
 use Rattle.demands.proofs.Demand3Proof.{demand3-at-surge, any-save-at-surge, opens-cold, own-saves-load, held-runs-save}
 use Rattle.worked.proofs.ComputedProof.{computed-holds}
@@ -23,6 +24,7 @@ every-statement = record {
   demand2 = demand2;
   floats-without-loss = floats-without-loss;
   same-at-zero-friction = same-at-zero-friction;
+  off-gives-earlier = off-gives-earlier;
   saved-is-loaded = saved-is-loaded;
   same-text-same-run = same-text-same-run;
   loaded-is-saved = loaded-is-saved;
