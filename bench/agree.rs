@@ -68,6 +68,8 @@ type Fault = (u32, fn(&mut Given));
 const FAULTS: &[Fault] = &[
     (0, |_| {}),
     (1, |g| g.work += 1),
+    // the room that was asked before #103
+    (1, |g| g.work = 3 * 20),
     (1, |g| g.world.tri.truncate(71)),
     (2, |g| g.world.tri.clear()),
     (3, |g| g.world.tri[7] = 20),
@@ -107,7 +109,7 @@ const FAULTS: &[Fault] = &[
     (24, |g| g.room -= 1),
 ];
 
-/// Stops where the two differ. Says how many faults were tried.
+/// Stops where the two differ, at either setting. Says how many faults were tried.
 pub fn refusals() -> usize {
     let world = World::grid(5, 4);
     let clock = Clock { step: 5, wx: 0.01, wy: -0.02 };
@@ -115,16 +117,23 @@ pub fn refusals() -> usize {
     let mut text = vec![0; 70 + 73 * 20];
     assert_eq!(Product.save(&world.mesh(), &mut text, &state, clock).number, 0);
     let forcing = Forcing { elevation: 0.5, wx: 0.03, wy: 0.04 };
-    let sound = Given { world, state, clock, forcing, room: text.len(), text, work: 60 };
-    for (at, (row, spoil)) in FAULTS.iter().enumerate() {
+    let sound = Given { world, state, clock, forcing, room: text.len(), text, work: 5 * 20 };
+    for (at, &(row, spoil)) in FAULTS.iter().enumerate() {
         let mut given = sound.clone();
         spoil(&mut given);
-        let (numbers, product) = outcomes(&Product, &given);
-        assert!(numbers.contains(row), "fault {at}: the product answers {numbers:?}, not {row}");
-        for forms_as_set in [false, true] {
-            let (tested, traces) = outcomes(&Tested { forms_as_set }, &given);
-            assert!(product == traces, "fault {at}, row {row}: product {numbers:?}, tested {tested:?}");
-        }
+        alike(at, row, &given);
+        given.world.p.advection = true;
+        alike(at, row, &given);
     }
     FAULTS.len() - 1
+}
+
+fn alike(at: usize, row: u32, given: &Given) {
+    let advection = given.world.p.advection;
+    let (numbers, product) = outcomes(&Product, given);
+    assert!(numbers.contains(&row), "fault {at}, advection {advection}: the product answers {numbers:?}, not {row}");
+    for forms_as_set in [false, true] {
+        let (tested, traces) = outcomes(&Tested { forms_as_set }, given);
+        assert!(product == traces, "fault {at}, row {row}, advection {advection}: product {numbers:?}, tested {tested:?}");
+    }
 }

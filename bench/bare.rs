@@ -1,10 +1,10 @@
-//! Plain Rust that tests nothing: the equations and the frames alone. Since nothing is refused, the new values go straight into the next state, and the
-//! work room of floats is not needed. Node numbers are trusted, lengths and digits too.
+//! Plain Rust that tests nothing: the equations and the frames alone. Since nothing is refused, the new values go straight into the next state, and of the
+//! work room of floats only Au and Av take some. Node numbers are trusted, lengths and digits too.
 
 use crate::bare_grids;
-use crate::formulas::{new_elevation, new_velocity, shares, slope, Corner, Sides, Terms, HELD_LAND, OPEN};
+use crate::formulas::{new_elevation, new_velocity, shares, slope, Corner, Shares, Sides, Sums, Terms, HELD_LAND, OPEN};
 use crate::hex;
-use crate::run::{Answer, Clock, Forcing, GridRooms, Mesh, Program, Rooms, State};
+use crate::run::{Answer, Clock, Forcing, GridRooms, Known, Mesh, Program, Rooms, State};
 
 pub struct Bare;
 
@@ -27,18 +27,27 @@ fn sides(mesh: &Mesh, corners: [usize; 3]) -> Sides {
     Sides::of(corners.map(|i| at(mesh.x, i)), corners.map(|i| at(mesh.y, i)))
 }
 
-fn gather(mesh: &Mesh, terms: &Terms, state: State, r: &mut [f64], sums: &mut [u64]) {
+/// Au and Av of a node stand side by side, so that one wide addition serves both.
+fn gather<const ADVECTION: bool>(mesh: &Mesh, terms: &Terms, state: State, r: &mut [f64], carried: &mut [[f64; 2]], sums: &mut [u64]) {
     r.fill(0.0);
     sums.fill(0);
+    if ADVECTION {
+        carried.fill([0.0; 2]);
+    }
     for corners in mesh.corners() {
         let sides = sides(mesh, corners);
         let d = sides.twice_area();
         let water =
             corners.map(|i| Corner { h: at(mesh.h, i), earlier: at(state.earlier, i), z: at(state.z, i), u: at(state.u, i), v: at(state.v, i) });
-        let given = shares(terms, water, &sides, d);
+        let Shares { r: given, carried: [of_u, of_v] } = shares::<ADVECTION>(terms, water, &sides, d);
         for j in 0..3 {
             *place(r, corners[j]) += given[j];
             *place(sums, corners[j]) += d as u64;
+            if ADVECTION {
+                let [au, av] = place(carried, corners[j]);
+                *au += of_u;
+                *av += of_v;
+            }
         }
     }
 }
@@ -64,14 +73,32 @@ fn slopes(mesh: &Mesh, state: State, z_new: &[f64], px: &mut [f64], py: &mut [f6
     }
 }
 
-fn flows(mesh: &Mesh, terms: &Terms, state: State, z_new: &[f64], sums: &[u64], px: &mut [f64], py: &mut [f64]) {
+fn flows<const ADVECTION: bool>(mesh: &Mesh, terms: &Terms, state: State, known: Known, px: &mut [f64], py: &mut [f64]) {
+    let Known { z_new, carried, sums } = known;
     for i in 0..mesh.nodes() {
         let water = Corner { h: at(mesh.h, i), earlier: 0.0, z: at(state.z, i), u: at(state.u, i), v: at(state.v, i) };
-        let (east, north) = new_velocity(terms, water, at(z_new, i), at(px, i), at(py, i), at(sums, i));
+        let gathered = Sums { px: at(px, i), py: at(py, i), carried: at(carried, i), s: at(sums, i) };
+        let (east, north) = new_velocity::<ADVECTION>(terms, water, at(z_new, i), gathered);
         let held = at(mesh.kind, i) == HELD_LAND;
         *place(px, i) = if held { 0.0 } else { east };
         *place(py, i) = if held { 0.0 } else { north };
     }
+}
+
+fn step<const ADVECTION: bool>(mesh: &Mesh, rooms: Rooms, state: &[f64], clock: Clock, forcing: Forcing) -> (Answer, Clock) {
+    let n = mesh.nodes();
+    let terms = Terms::of(mesh.p, clock, forcing);
+    let state = State::of(state, n);
+    let (earlier, rest) = rooms.next.split_at_mut(n);
+    let (z, rest) = rest.split_at_mut(n);
+    let (u, v) = rest.split_at_mut(n);
+    let (carried, _) = rooms.work[..2 * n].as_chunks_mut::<2>();
+    earlier.copy_from_slice(state.z);
+    gather::<ADVECTION>(mesh, &terms, state, z, carried, rooms.sums);
+    raise(mesh, &terms, state, z, rooms.sums, forcing.elevation);
+    slopes(mesh, state, z, u, v);
+    flows::<ADVECTION>(mesh, &terms, state, Known { z_new: z, carried, sums: rooms.sums }, u, v);
+    (Answer::accepted(0), clock.advanced(forcing))
 }
 
 #[inline(always)]
@@ -96,18 +123,9 @@ impl Program for Bare {
 
     #[inline(never)]
     fn step(&self, mesh: &Mesh, rooms: Rooms, state: &[f64], clock: Clock, forcing: Forcing) -> (Answer, Clock) {
-        let n = mesh.nodes();
-        let terms = Terms::of(mesh.p, clock, forcing);
-        let state = State::of(state, n);
-        let (earlier, rest) = rooms.next.split_at_mut(n);
-        let (z, rest) = rest.split_at_mut(n);
-        let (u, v) = rest.split_at_mut(n);
-        earlier.copy_from_slice(state.z);
-        gather(mesh, &terms, state, z, rooms.sums);
-        raise(mesh, &terms, state, z, rooms.sums, forcing.elevation);
-        slopes(mesh, state, z, u, v);
-        flows(mesh, &terms, state, z, rooms.sums, u, v);
-        (Answer::accepted(0), clock.advanced(forcing))
+        // chosen here, once, so that no loop asks for the setting
+        let step = if mesh.p.advection { step::<true> } else { step::<false> };
+        step(mesh, rooms, state, clock, forcing)
     }
 
     #[inline(never)]

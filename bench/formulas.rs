@@ -1,5 +1,6 @@
-//! The formulas of document 01 on single values, m as #102 of document 02 has it, shared by the two plain programs. The operations and their order are the
-//! documents', so that the bits are the product's. What does not change within a step is worked out once, before the loops.
+//! The formulas of document 01 on single values, m and advection as #102 and #103 of document 02 have them, shared by the two plain programs. The
+//! operations and their order are the documents', so that the bits are the product's. What does not change within a step is worked out once, before the
+//! loops; whether advection is on is known when a loop is compiled, so that off costs nothing.
 
 use crate::run::{Clock, Forcing, Parameters};
 
@@ -94,9 +95,48 @@ pub fn slope(v: [f64; 3], w: [f64; 3]) -> f64 {
     (v[0] * w[0] + v[1] * w[1]) + v[2] * w[2]
 }
 
-/// What the three corners of a triangle receive.
+/// A term of advection taken from a value, or left out where it is off. What only such terms use, a compiler then leaves out of the loops.
 #[inline(always)]
-pub fn shares(t: &Terms, corners: [Corner; 3], sides: &Sides, d: f64) -> [f64; 3] {
+fn less<const ADVECTION: bool>(value: f64, term: f64) -> f64 {
+    if ADVECTION {
+        value - term
+    } else {
+        value
+    }
+}
+
+/// How U and V change over a triangle.
+struct FlowSlopes {
+    /// Xu and Yu
+    u: [f64; 2],
+    /// Xv and Yv
+    v: [f64; 2],
+}
+
+impl FlowSlopes {
+    #[inline(always)]
+    fn of(corners: [Corner; 3], sides: &Sides) -> FlowSlopes {
+        let slopes = |speeds| [slope(speeds, sides.b), slope(speeds, sides.a)];
+        FlowSlopes { u: slopes(corners.map(|c| c.u)), v: slopes(corners.map(|c| c.v)) }
+    }
+
+    /// What a flow carries along of U and of V.
+    #[inline(always)]
+    fn carried(&self, x: f64, y: f64) -> [f64; 2] {
+        [self.u, self.v].map(|[along_x, along_y]| x * along_x + y * along_y)
+    }
+}
+
+/// What a triangle gives to its corners.
+pub struct Shares {
+    /// to R, corner by corner
+    pub r: [f64; 3],
+    /// to Au and Av, the same at each corner
+    pub carried: [f64; 2],
+}
+
+#[inline(always)]
+pub fn shares<const ADVECTION: bool>(t: &Terms, corners: [Corner; 3], sides: &Sides, d: f64) -> Shares {
     let Sides { a, b } = *sides;
     let z = corners.map(|c| c.z);
     let squares = corners.map(|c| c.z * c.z);
@@ -109,10 +149,12 @@ pub fn shares(t: &Terms, corners: [Corner; 3], sides: &Sides, d: f64) -> [f64; 3
     let (gx, gy) = (slope(z, b), slope(z, a));
     let (sx, sy) = (slope(squares, b), slope(squares, a));
     let twice = 2.0 * d;
-    let jx = ((((t.f * qy - (G * sx) / twice) + t.wx) - t.k * ub) + (ub * risen) / t.dt) + t.tau * qx;
-    let jy = (((((-t.f) * qx - (G * sy) / twice) + t.wy) - t.k * vb) + (vb * risen) / t.dt) + t.tau * qy;
+    let flow = FlowSlopes::of(corners, sides);
+    let [of_u, of_v] = flow.carried(qx, qy);
+    let jx = ((((less::<ADVECTION>(t.f * qy, of_u / d) - (G * sx) / twice) + t.wx) - t.k * ub) + (ub * risen) / t.dt) + t.tau * qx;
+    let jy = ((((less::<ADVECTION>((-t.f) * qx, of_v / d) - (G * sy) / twice) + t.wy) - t.k * vb) + (vb * risen) / t.dt) + t.tau * qy;
     let share = |j: usize| (jx * b[j] + jy * a[j]) / 2.0 - (weight * (gx * b[j] + gy * a[j])) / twice;
-    [share(0), share(1), share(2)]
+    Shares { r: [share(0), share(1), share(2)], carried: flow.carried(ub, vb) }
 }
 
 /// z' of a node that is not open.
@@ -122,19 +164,30 @@ pub fn new_elevation(t: &Terms, s: u64, z: f64, earlier: f64, r: f64) -> f64 {
     z + ((l * t.earlier_weight) * (z - earlier) + r) / (l * t.new_weight)
 }
 
+/// What a node has gathered from its triangles when its U' and V' are worked out.
+#[derive(Clone, Copy)]
+pub struct Sums {
+    pub px: f64,
+    pub py: f64,
+    /// Au and Av; not looked at where advection is off
+    pub carried: [f64; 2],
+    pub s: u64,
+}
+
 /// U' and V' of a node that is not held land.
 #[inline(always)]
-pub fn new_velocity(t: &Terms, c: Corner, z_new: f64, px: f64, py: f64, s: u64) -> (f64, f64) {
+pub fn new_velocity<const ADVECTION: bool>(t: &Terms, c: Corner, z_new: f64, sums: Sums) -> (f64, f64) {
     let column = c.h + c.z;
     let column_new = c.h + z_new;
-    let twice = 2.0 * s as f64;
+    let (s, [au, av]) = (sums.s as f64, sums.carried);
+    let twice = 2.0 * s;
     let (p, m, q) = (1.0 + t.friction / (2.0 * column_new), 1.0 - t.friction / (2.0 * column), t.q);
-    let gx = (t.pull * px) / twice;
-    let gy = (t.pull * py) / twice;
+    let gx = (t.pull * sums.px) / twice;
+    let gy = (t.pull * sums.py) / twice;
     let wx = (t.dt * (t.wx_new / column_new + t.wx / column)) / 2.0;
     let wy = (t.dt * (t.wy_new / column_new + t.wy / column)) / 2.0;
-    let rx = ((m * c.u + q * c.v) - gx) + wx;
-    let ry = ((m * c.v - q * c.u) - gy) + wy;
+    let rx = less::<ADVECTION>((m * c.u + q * c.v) - gx, (t.dt * au) / s) + wx;
+    let ry = less::<ADVECTION>((m * c.v - q * c.u) - gy, (t.dt * av) / s) + wy;
     let n = p * p + q * q;
     ((p * rx + q * ry) / n, (p * ry - q * rx) / n)
 }

@@ -23,7 +23,7 @@ impl<'a> Held<'a> {
             clock: Clock::COLD,
             grid: Grid::of([n, n, n, mesh.tri.len()]),
             next: vec![0.0; 4 * n],
-            work: vec![0.0; 3 * n],
+            work: vec![0.0; 5 * n],
             sums: vec![0; n],
         }
     }

@@ -2,7 +2,7 @@
 //! `tools/bench` builds and runs it; docs/SPEED.md has the figures of one run.
 //!
 //!     bench [ROUNDS]              the tables
-//!     bench CALL PROGRAM COUNT    one call by one program, for a profiler: open, step, save, load or grid by product, tested or bare
+//!     bench CALL PROGRAM COUNT    one call by one program, for a profiler: open, step, step-on, save, load or grid by product, tested or bare
 
 mod agree;
 mod agree_grids;
@@ -21,7 +21,7 @@ mod world;
 use bare::Bare;
 use held::Held;
 use product::Product;
-use run::{Forcing, Program};
+use run::{Forcing, Mesh, Program};
 use tested::Tested;
 use timing::{interleaved, Times};
 use world::{forcings, World};
@@ -36,36 +36,39 @@ const NODE_STEPS: usize = 600_000;
 const TESTED: Tested = Tested { forms_as_set: false };
 const AS_SET: Tested = Tested { forms_as_set: true };
 
+const PROGRAMS: [&dyn Program; 3] = [&Product, &TESTED, &Bare];
+
 fn main() {
     let words: Vec<String> = std::env::args().skip(1).collect();
     if let [call, program, count] = &words[..] {
         return only(call, program, count.parse().expect("a count of calls"));
     }
     let rounds = words.first().map_or(7, |word| word.parse().expect("a count of rounds"));
-    println!("{} faults answered alike by the product and the tested program", agree::refusals());
+    println!("{} faults answered alike by the product and the tested program, advection off and on", agree::refusals());
     let (faults, right) = agree_grids::readings();
     println!("{faults} faults of grid texts and {right} right ones likewise");
     let world = World::grid(80, 50);
     let forcings = forcings(STEPS);
-    let state = calls(rounds, &world, &forcings);
+    let (off, on) = calls(rounds, &world, &forcings);
     growth(rounds, &forcings);
-    parts_of_a_step(rounds, &world, &state, forcings[0]);
+    parts_of_a_step(rounds, "a step", &world, &off, forcings[0]);
+    parts_of_a_step(rounds, "a step, advection on", &world.with_advection(), &on, forcings[0]);
     parts_of_a_reading(rounds, &world);
 }
 
 /// One call by one program, so many times. Steps begin anew after as many as there are forcings.
 fn only(call: &str, name: &str, count: usize) {
-    let world = World::grid(80, 50);
+    let mut world = World::grid(80, 50);
+    world.p.advection = call == "step-on";
     let mesh = world.mesh();
-    let programs: [&dyn Program; 3] = [&Product, &TESTED, &Bare];
-    let program = programs.iter().find(|program| program.name() == name).expect("product, tested or bare");
+    let program = PROGRAMS.iter().find(|program| program.name() == name).expect("product, tested or bare");
     let mut run = Held::new(*program, &mesh);
     let (forcings, grid) = (forcings(STEPS), world.grid_text());
     run.save(&mesh);
     for at in 0..count {
         match call {
             "open" => run.open(&mesh),
-            "step" => {
+            "step" | "step-on" => {
                 if at % STEPS == 0 {
                     run.restart();
                 }
@@ -74,7 +77,7 @@ fn only(call: &str, name: &str, count: usize) {
             "save" => run.save(&mesh),
             "load" => run.load(&mesh),
             "grid" => run.read_grid(&grid),
-            _ => panic!("open, step, save, load or grid"),
+            _ => panic!("open, step, step-on, save, load or grid"),
         }
     }
 }
@@ -124,22 +127,30 @@ fn line(call: &str, count: usize, times: &[Times]) {
     );
 }
 
-/// The five calls by the three programs. The state after the steps comes back.
-fn calls(rounds: usize, world: &World, forcings: &[Forcing]) -> Vec<f64> {
+/// Steps from the cold start by every forcing; the programs hold the same afterwards.
+fn steps(rounds: usize, mesh: &Mesh, runs: &mut [Held], forcings: &[Forcing]) -> Vec<Times> {
+    let times = interleaved(rounds, runs, |run| {
+        run.restart();
+        run.steps(mesh, forcings);
+    });
+    same(runs);
+    times
+}
+
+/// The five calls by the three programs, a step at both settings. The states after the steps come back, without advection and with it.
+fn calls(rounds: usize, world: &World, forcings: &[Forcing]) -> (Vec<f64>, Vec<f64>) {
     let mesh = world.mesh();
     println!("N {}, E {}, {rounds} rounds, shortest round\n", mesh.nodes(), mesh.triangles());
     println!("| call | product | (b) tested | (c) bare | product/(b) | product/(c) | by medians |");
     println!("|---|---|---|---|---|---|---|");
-    let mut runs = held(&[&Product, &TESTED, &Bare], world);
+    let mut runs = held(&PROGRAMS, world);
     line("open", 1, &interleaved(rounds, &mut runs, |run| run.open(&mesh)));
     let mut as_set = held(&[&Product, &AS_SET, &Bare], world);
     line("open, (b) with row 6 by pairs", 1, &interleaved(rounds, &mut as_set, |run| run.open(&mesh)));
-    let times = interleaved(rounds, &mut runs, |run| {
-        run.restart();
-        run.steps(&mesh, forcings);
-    });
-    line("step", STEPS, &times);
-    same(&runs);
+    line("step", STEPS, &steps(rounds, &mesh, &mut runs, forcings));
+    let mut on = held(&PROGRAMS, world);
+    line("step, advection on", STEPS, &steps(rounds, &world.with_advection().mesh(), &mut on, forcings));
+    assert!(on[0].bits() != runs[0].bits(), "the setting changes nothing");
     line("save", SAVES, &interleaved(rounds, &mut runs, |run| (0..SAVES).for_each(|_| run.save(&mesh))));
     same(&runs);
     let stepped = runs[0].bits();
@@ -147,9 +158,9 @@ fn calls(rounds: usize, world: &World, forcings: &[Forcing]) -> Vec<f64> {
     same(&runs);
     assert!(runs[0].bits() == stepped, "another state after the load");
     let by_the_byte = readings(rounds, world, &mut runs, &mut as_set);
-    println!("\nstates after {STEPS} steps bit-equal, saves byte-equal, loads give the state back, grids read bit-equal");
+    println!("\nstates after {STEPS} steps bit-equal at either setting, saves byte-equal, loads give the state back, grids read bit-equal");
     println!("{by_the_byte}\n");
-    runs.swap_remove(0).state
+    (runs.swap_remove(0).state, on.swap_remove(0).state)
 }
 
 /// The lines of the grid readings. What they are by the byte comes back, to stand below the table.
@@ -176,23 +187,19 @@ fn growth(rounds: usize, forcings: &[Forcing]) {
         let world = World::grid(across, along);
         let mesh = world.mesh();
         let n = mesh.nodes();
-        let steps = (NODE_STEPS / n).min(forcings.len());
-        let mut runs = held(&[&Product, &TESTED, &Bare], &world);
-        let times = interleaved(rounds, &mut runs, |run| {
-            run.restart();
-            run.steps(&mesh, &forcings[..steps]);
-        });
-        same(&runs);
-        let [p, b, c] = [0, 1, 2].map(|at: usize| times[at].best() / (steps * n) as f64 * 1e9);
+        let count = (NODE_STEPS / n).min(forcings.len());
+        let mut runs = held(&PROGRAMS, &world);
+        let times = steps(rounds, &mesh, &mut runs, &forcings[..count]);
+        let [p, b, c] = [0, 1, 2].map(|at: usize| times[at].best() / (count * n) as f64 * 1e9);
         println!("| {n} | {} | {p:.1} | {b:.1} | {c:.1} | {} | {} |", mesh.triangles(), ratio(p, b), ratio(p, c));
     }
     println!();
 }
 
-fn parts_of_a_step(rounds: usize, world: &World, state: &[f64], forcing: Forcing) {
+fn parts_of_a_step(rounds: usize, name: &str, world: &World, state: &[f64], forcing: Forcing) {
     let programs: [&dyn Program; 2] = [&Product, &TESTED];
     let parts = parts::outside(rounds, &programs, world, state);
-    println!("| part of a step, by refused calls | product | (b) | ratio |");
+    println!("| part of {name}, by refused calls | product | (b) | ratio |");
     println!("|---|---|---|---|");
     let compare = |name: &str, part: fn(&parts::Outside) -> f64| {
         let (p, b) = (part(&parts[0]), part(&parts[1]));
@@ -202,18 +209,19 @@ fn parts_of_a_step(rounds: usize, world: &World, state: &[f64], forcing: Forcing
     compare("both clearings, R and S, z', row 13 of z'", |t| t.levels - t.rows);
     compare("Px and Py, U' and V', row 13 of them, the next state written", |t| t.whole - t.levels);
     compare("the whole", |t| t.whole);
-    println!("\n| part of a step, (b) by itself | time |");
+    println!("\n| part of {name}, (b) by itself | time |");
     println!("|---|---|");
     let run = Held::new(&TESTED, &world.mesh());
     for (name, seconds) in parts::inside(rounds, world, state, &run, forcing) {
         println!("| {name} | {} |", time(seconds));
     }
+    println!();
 }
 
 fn parts_of_a_reading(rounds: usize, world: &World) {
     let programs: [&dyn Program; 3] = [&Product, &TESTED, &AS_SET];
     let parts = parts::readings(rounds, &programs, world);
-    println!("\n| part of read_grid, by a refused call | product | (b) | (b) reading twice | product/(b) | product/(b) reading twice |");
+    println!("| part of read_grid, by a refused call | product | (b) | (b) reading twice | product/(b) | product/(b) reading twice |");
     println!("|---|---|---|---|---|---|");
     let compare = |name: &str, part: fn(&(f64, f64)) -> f64| {
         let [p, b, twice] = [0, 1, 2].map(|at: usize| part(&parts[at]));

@@ -2,7 +2,7 @@
 
 use crate::formulas::Terms;
 use crate::held::Held;
-use crate::run::{Forcing, Program, State};
+use crate::run::{Forcing, Known, Program, State};
 use crate::tested::{mesh, step};
 use crate::timing::{each, interleaved};
 use crate::world::World;
@@ -18,7 +18,7 @@ const READINGS: usize = 20;
 pub struct Outside {
     /// a call that row 12 refuses: rows 1 to 12
     pub rows: f64,
-    /// a call that row 13 refuses at the last node's elevation: what is above, both clearings, the first pass, z'
+    /// a call that row 13 refuses at the last node's elevation: what is above, both clearings, the first pass (with advection Au and Av too), z'
     pub levels: f64,
     /// an accepted call
     pub whole: f64,
@@ -72,14 +72,20 @@ pub fn readings(rounds: usize, programs: &[&dyn Program], world: &World) -> Vec<
     asked.into_iter().zip(whole).collect()
 }
 
-/// The seconds of the tested program's parts, each by itself.
+/// The seconds of the tested program's parts, each by itself, at the setting of the world.
 pub fn inside(rounds: usize, world: &World, numbers: &[f64], held: &Held, forcing: Forcing) -> Vec<(&'static str, f64)> {
+    let inside = if world.p.advection { inside_at::<true> } else { inside_at::<false> };
+    inside(rounds, world, numbers, held, forcing)
+}
+
+fn inside_at<const ADVECTION: bool>(rounds: usize, world: &World, numbers: &[f64], held: &Held, forcing: Forcing) -> Vec<(&'static str, f64)> {
     let mesh = world.mesh();
     let n = mesh.nodes();
     let state = State::of(numbers, n);
     let terms = Terms::of(mesh.p, held.clock, forcing);
     let (mut r, mut px, mut py) = (vec![0.0; n], vec![0.0; n], vec![0.0; n]);
-    let (mut work, mut next, mut sums) = (vec![0.0; 3 * n], vec![0.0; 4 * n], vec![0u64; n]);
+    let (mut work, mut next, mut sums) = (vec![0.0; 5 * n], vec![0.0; 4 * n], vec![0u64; n]);
+    let mut carried = vec![[0.0; 2]; n];
     let mut parts = Vec::new();
     let mut part = |name: &'static str, work: &mut dyn FnMut()| parts.push((name, each(rounds, TIMES, work)));
     let marks = mesh::triangles(&mesh).expect("a sound mesh");
@@ -87,13 +93,15 @@ pub fn inside(rounds: usize, world: &World, numbers: &[f64], held: &Held, forcin
     part("row 7, over the marks", &mut || assert!(mesh::row_7(black_box(&mesh), &marks).is_ok()));
     part("row 8, over the nodes", &mut || assert!(mesh::row_8(black_box(&mesh)).is_ok()));
     part("row 10, over the nodes", &mut || assert!(step::row_10(black_box(&mesh), numbers).is_ok()));
-    part("R and S, over the triangles", &mut || step::gather(black_box(&mesh), &terms, state, &mut r, &mut sums));
+    let gathered = if ADVECTION { "R, S, Au and Av, over the triangles" } else { "R and S, over the triangles" };
+    part(gathered, &mut || step::gather::<ADVECTION>(black_box(&mesh), &terms, state, &mut r, &mut carried, &mut sums));
     // z' is made in the place of R, so that later rounds find z' there: the time does not go by the value
     part("z', over the nodes", &mut || step::raise(black_box(&mesh), &terms, state, &mut r, &sums, forcing.elevation));
     r.copy_from_slice(state.z);
     part("row 13 of z'", &mut || assert!(step::row_13_levels(black_box(&mesh), &r).is_ok()));
     part("Px and Py, over the triangles", &mut || step::slopes(black_box(&mesh), state, &r, &mut px, &mut py));
-    part("U' and V', over the nodes", &mut || step::flows(black_box(&mesh), &terms, state, &r, &sums, &mut px, &mut py));
+    let known = Known { z_new: &r, carried: &carried, sums: &sums };
+    part("U' and V', over the nodes", &mut || step::flows::<ADVECTION>(black_box(&mesh), &terms, state, known, &mut px, &mut py));
     px.copy_from_slice(state.u);
     py.copy_from_slice(state.v);
     part("row 13 of U' and V'", &mut || assert!(step::row_13_speeds(black_box(&px), black_box(&py)).is_ok()));

@@ -14,7 +14,7 @@ extern "C" {
         tri: *const u16, tri_length: usize,
         h: *const f64, h_length: usize,
         kind: *const u8, kind_length: usize,
-        dt: f64, tau: f64, k: f64, f: f64,
+        dt: f64, tau: f64, k: f64, f: f64, advection: u8,
     ) -> u32;
     fn surge_step(
         next: *mut f64, next_length: usize,
@@ -28,7 +28,7 @@ extern "C" {
         tri: *const u16, tri_length: usize,
         h: *const f64, h_length: usize,
         kind: *const u8, kind_length: usize,
-        dt: f64, tau: f64, k: f64, f: f64,
+        dt: f64, tau: f64, k: f64, f: f64, advection: u8,
         elevation: f64, wx_new: f64, wy_new: f64,
     ) -> u32;
     fn surge_save(
@@ -40,7 +40,7 @@ extern "C" {
         tri: *const u16, tri_length: usize,
         h: *const f64, h_length: usize,
         kind: *const u8, kind_length: usize,
-        dt: f64, tau: f64, k: f64, f: f64,
+        dt: f64, tau: f64, k: f64, f: f64, advection: u8,
         step: u32, wx: f64, wy: f64,
     ) -> u32;
     fn surge_load(
@@ -53,7 +53,7 @@ extern "C" {
         tri: *const u16, tri_length: usize,
         h: *const f64, h_length: usize,
         kind: *const u8, kind_length: usize,
-        dt: f64, tau: f64, k: f64, f: f64,
+        dt: f64, tau: f64, k: f64, f: f64, advection: u8,
     ) -> u32;
     fn surge_read_grid(
         x: *mut i32, x_length: usize,
@@ -104,7 +104,7 @@ impl Program for Product {
                 m.tri.as_ptr(), m.tri.len(),
                 m.h.as_ptr(), m.h.len(),
                 m.kind.as_ptr(), m.kind.len(),
-                m.p.dt, m.p.tau, m.p.k, m.p.f,
+                m.p.dt, m.p.tau, m.p.k, m.p.f, m.p.advection.into(),
             )
         };
         (r.answer(number), r.clock)
@@ -125,7 +125,7 @@ impl Program for Product {
                 m.tri.as_ptr(), m.tri.len(),
                 m.h.as_ptr(), m.h.len(),
                 m.kind.as_ptr(), m.kind.len(),
-                m.p.dt, m.p.tau, m.p.k, m.p.f,
+                m.p.dt, m.p.tau, m.p.k, m.p.f, m.p.advection.into(),
                 forcing.elevation, forcing.wx, forcing.wy,
             )
         };
@@ -144,7 +144,7 @@ impl Program for Product {
                 m.tri.as_ptr(), m.tri.len(),
                 m.h.as_ptr(), m.h.len(),
                 m.kind.as_ptr(), m.kind.len(),
-                m.p.dt, m.p.tau, m.p.k, m.p.f,
+                m.p.dt, m.p.tau, m.p.k, m.p.f, m.p.advection.into(),
                 clock.step, clock.wx, clock.wy,
             )
         };
@@ -164,7 +164,7 @@ impl Program for Product {
                 m.tri.as_ptr(), m.tri.len(),
                 m.h.as_ptr(), m.h.len(),
                 m.kind.as_ptr(), m.kind.len(),
-                m.p.dt, m.p.tau, m.p.k, m.p.f,
+                m.p.dt, m.p.tau, m.p.k, m.p.f, m.p.advection.into(),
             )
         };
         (r.answer(number), r.clock)

@@ -6,6 +6,7 @@ pub struct Parameters {
     pub tau: f64,
     pub k: f64,
     pub f: f64,
+    pub advection: bool,
 }
 
 #[derive(Clone, Copy)]
@@ -140,6 +141,16 @@ impl<'a> State<'a> {
         let (u, v) = rest.split_at(n);
         State { earlier, z, u, v }
     }
+}
+
+/// What a step knows of every node before its U' and V'.
+#[derive(Clone, Copy)]
+pub struct Known<'a> {
+    pub z_new: &'a [f64],
+    /// Au and Av, side by side; not looked at where advection is off
+    pub carried: &'a [[f64; 2]],
+    /// S
+    pub sums: &'a [u64],
 }
 
 /// A program that makes the calls. The three are called through this trait alone, so that none is woven into the measuring loop.

@@ -30,7 +30,7 @@ pub struct World {
 }
 
 impl World {
-    /// A grid of so many nodes across and along.
+    /// A grid of so many nodes across and along, advection off.
     pub fn grid(across: usize, along: usize) -> World {
         let mut dice = Dice(0x9E37_79B9_7F4A_7C15);
         let mut moved = |i: usize| i as i32 * SPACING + dice.below(2 * JITTER as u64 + 1) as i32 - JITTER;
@@ -41,7 +41,12 @@ impl World {
         }
         let h = (0..across * along).map(|_| 5.0 + dice.below(45_000) as f64 / 1_000.0).collect();
         let kind = (0..across * along).map(|node| kind_of(node % across, across)).collect();
-        World { x, y, tri: triangles(across, along), h, kind, p: Parameters { dt: 2.0, tau: 0.005, k: 0.002, f: 0.0001 } }
+        World { x, y, tri: triangles(across, along), h, kind, p: Parameters { dt: 2.0, tau: 0.005, k: 0.002, f: 0.0001, advection: false } }
+    }
+
+    /// The same with advection on.
+    pub fn with_advection(&self) -> World {
+        World { p: Parameters { advection: true, ..self.p }, ..self.clone() }
     }
 
     pub fn mesh(&self) -> Mesh<'_> {

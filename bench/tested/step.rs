@@ -1,8 +1,8 @@
 //! Rows 10 to 13 and the equations. The parts of a step are functions of their own, so that each can be timed by itself.
 
 use super::mesh::{self, within};
-use crate::formulas::{new_elevation, new_velocity, shares, slope, Corner, Sides, Terms, HELD_LAND, OPEN};
-use crate::run::{Answer, Clock, Forcing, Mesh, Rooms, State};
+use crate::formulas::{new_elevation, new_velocity, shares, slope, Corner, Shares, Sides, Sums, Terms, HELD_LAND, OPEN};
+use crate::run::{Answer, Clock, Forcing, Known, Mesh, Rooms, State};
 
 pub fn step(mesh: &Mesh, rooms: Rooms, state: &[f64], clock: Clock, forcing: Forcing) -> (Answer, Clock) {
     let Rooms { next, work, sums } = rooms;
@@ -10,6 +10,8 @@ pub fn step(mesh: &Mesh, rooms: Rooms, state: &[f64], clock: Clock, forcing: For
         return (refusal, clock);
     }
     let state = State::of(state, mesh.nodes());
+    // chosen here, once, so that no loop asks for the setting
+    let solve = if mesh.p.advection { solve::<true> } else { solve::<false> };
     let outcome = solve(mesh, work, sums, state, clock, forcing);
     if outcome.is_ok() {
         publish(next, state, work);
@@ -23,7 +25,7 @@ pub fn step(mesh: &Mesh, rooms: Rooms, state: &[f64], clock: Clock, forcing: For
 
 fn rows_1_to_12(mesh: &Mesh, lengths: [usize; 3], state: &[f64], clock: Clock, forcing: Forcing) -> Result<(), Answer> {
     let [next, work, sums] = lengths;
-    mesh::rows_1_to_9(mesh, &[(next, 4), (work, 3), (sums, 1), (state.len(), 4)])?;
+    mesh::rows_1_to_9(mesh, &[(next, 4), (work, 5), (sums, 1), (state.len(), 4)])?;
     row_10(mesh, state)?;
     if clock.step == u32::MAX {
         return Err(Answer::refused(11, 0));
@@ -64,35 +66,46 @@ pub fn row_10(mesh: &Mesh, state: &[f64]) -> Result<(), Answer> {
     Err(Answer::refused(10, node.unwrap_or(0)))
 }
 
-fn solve(mesh: &Mesh, work: &mut [f64], sums: &mut [u64], state: State, clock: Clock, forcing: Forcing) -> Result<(), Answer> {
+fn solve<const ADVECTION: bool>(mesh: &Mesh, work: &mut [f64], sums: &mut [u64], state: State, clock: Clock, forcing: Forcing) -> Result<(), Answer> {
     let n = mesh.nodes();
     let terms = Terms::of(mesh.p, clock, forcing);
     let (first, rest) = work.split_at_mut(n);
-    let (second, third) = rest.split_at_mut(n);
-    gather(mesh, &terms, state, first, sums);
+    let (second, rest) = rest.split_at_mut(n);
+    let (third, rest) = rest.split_at_mut(n);
+    let (carried, _) = rest.as_chunks_mut::<2>();
+    gather::<ADVECTION>(mesh, &terms, state, first, carried, sums);
     raise(mesh, &terms, state, first, sums, forcing.elevation);
     row_13_levels(mesh, first)?;
     slopes(mesh, state, first, second, third);
-    flows(mesh, &terms, state, first, sums, second, third);
+    flows::<ADVECTION>(mesh, &terms, state, Known { z_new: first, carried, sums }, second, third);
     row_13_speeds(second, third)
 }
 
-/// R and S of every node.
-pub fn gather(mesh: &Mesh, terms: &Terms, state: State, r: &mut [f64], sums: &mut [u64]) {
+/// R and S of every node, and with advection Au and Av, which stand side by side, so that one wide addition serves both.
+pub fn gather<const ADVECTION: bool>(mesh: &Mesh, terms: &Terms, state: State, r: &mut [f64], carried: &mut [[f64; 2]], sums: &mut [u64]) {
     r.fill(0.0);
     sums.fill(0);
+    if ADVECTION {
+        carried.fill([0.0; 2]);
+    }
     // one length for all, so that one test of a node number serves every slice
     let n = mesh.nodes();
-    let (x, y, h, r, sums) = (&mesh.x[..n], &mesh.y[..n], &mesh.h[..n], &mut r[..n], &mut sums[..n]);
+    let (x, y, h) = (&mesh.x[..n], &mesh.y[..n], &mesh.h[..n]);
+    let (r, carried, sums) = (&mut r[..n], &mut carried[..n], &mut sums[..n]);
     let (earlier, z, u, v) = (&state.earlier[..n], &state.z[..n], &state.u[..n], &state.v[..n]);
     for corners in mesh.corners() {
         let sides = Sides::of(corners.map(|i| x[i]), corners.map(|i| y[i]));
         let d = sides.twice_area();
         let water = corners.map(|i| Corner { h: h[i], earlier: earlier[i], z: z[i], u: u[i], v: v[i] });
-        let given = shares(terms, water, &sides, d);
+        let Shares { r: given, carried: [of_u, of_v] } = shares::<ADVECTION>(terms, water, &sides, d);
         for j in 0..3 {
             r[corners[j]] += given[j];
             sums[corners[j]] += d as u64;
+            if ADVECTION {
+                let [au, av] = &mut carried[corners[j]];
+                *au += of_u;
+                *av += of_v;
+            }
         }
     }
 }
@@ -144,14 +157,15 @@ pub fn slopes(mesh: &Mesh, state: State, z_new: &[f64], px: &mut [f64], py: &mut
 }
 
 /// Px and Py of every node become its U' and V'.
-pub fn flows(mesh: &Mesh, terms: &Terms, state: State, z_new: &[f64], sums: &[u64], px: &mut [f64], py: &mut [f64]) {
+pub fn flows<const ADVECTION: bool>(mesh: &Mesh, terms: &Terms, state: State, known: Known, px: &mut [f64], py: &mut [f64]) {
     let n = mesh.nodes();
     let (kind, h, px, py) = (&mesh.kind[..n], &mesh.h[..n], &mut px[..n], &mut py[..n]);
     let (z, u, v) = (&state.z[..n], &state.u[..n], &state.v[..n]);
-    let (z_new, sums) = (&z_new[..n], &sums[..n]);
+    let (z_new, carried, sums) = (&known.z_new[..n], &known.carried[..n], &known.sums[..n]);
     for i in 0..n {
         let water = Corner { h: h[i], earlier: 0.0, z: z[i], u: u[i], v: v[i] };
-        let (east, north) = new_velocity(terms, water, z_new[i], px[i], py[i], sums[i]);
+        let gathered = Sums { px: px[i], py: py[i], carried: carried[i], s: sums[i] };
+        let (east, north) = new_velocity::<ADVECTION>(terms, water, z_new[i], gathered);
         let held = kind[i] == HELD_LAND;
         px[i] = if held { 0.0 } else { east };
         py[i] = if held { 0.0 } else { north };
@@ -171,12 +185,14 @@ pub fn row_13_speeds(u_new: &[f64], v_new: &[f64]) -> Result<(), Answer> {
     Ok(())
 }
 
+/// z', U' and V' are the first three runs of the work room.
 pub fn publish(next: &mut [f64], state: State, work: &[f64]) {
     let (earlier, rest) = next.split_at_mut(state.z.len());
     earlier.copy_from_slice(state.z);
-    rest.copy_from_slice(work);
+    rest.copy_from_slice(&work[..rest.len()]);
 }
 
+/// Nothing is known of what was lent, so that the runs of Au and Av are cleared where advection is off too.
 pub fn clear(work: &mut [f64], sums: &mut [u64]) {
     work.fill(0.0);
     sums.fill(0);
