@@ -148,14 +148,13 @@ module _ (g : Given) (z : Fits g) where
     -- ---- a turn of a pass over the triangles
     module _ {c : Three ℕ} (ec : c ≡ cornersOf g t) where
       pub sum-more : {v : Three Float} {m : Means} {work : List Float} → v ≡ sharesAt g t → m ≡ meansAt g t → work ≡ sumsTo g t
-          → let one = spread floating nan (past (0 * count g) c) v work in
-          cond (g .p .advection) (spreadBoth (count g) c (advection m) one) one ≡ sumsTo g (t + 1)
+          → spread floating nan (past (0 * count g) c) v (cond (g .p .advection) (spreadBoth (count g) c (advection m) work) work) ≡ sumsTo g (t + 1)
       sum-more {v} {m} {work} ev em ew =
           let r = gathered floating (cornersOf g) (sharesAt g) in
-          let first : spread floating nan (past (0 * count g) c) v work ≡ runsOf (count g) (r (t + 1) ∷ zero ∷ zero ∷ advectedTo g t) =
-          (λ i. spread floating nan (past (0 * count g) (ec i)) (ev i) (ew i))
-          ∙ gather-run floating nan (count g) (zero ∷ zero ∷ zero ∷ advectedTo g t) 0 (lit< tt) (cornersOf g) (sharesAt g) t (sound .nodes) in
-          (λ i. cond (g .p .advection) (spreadBoth (count g) (ec i) (advection (em i)) (first i)) (first i)) ∙ advection-more (r (t + 1)) (g .p .advection)
+          let both : cond (g .p .advection) (spreadBoth (count g) c (advection m) work) work ≡ runsOf (count g) (r t ∷ zero ∷ zero ∷ advectedTo g (t + 1)) =
+          (λ i. cond (g .p .advection) (spreadBoth (count g) (ec i) (advection (em i)) (ew i)) (ew i)) ∙ advection-more (r t) (g .p .advection) in
+          (λ i. spread floating nan (past (0 * count g) (ec i)) (ev i) (both i))
+          ∙ gather-run floating nan (count g) (zero ∷ zero ∷ zero ∷ advectedTo g (t + 1)) 0 (lit< tt) (cornersOf g) (sharesAt g) t (sound .nodes)
 
       pub slope-more : {work : List Float} {s : Sides} {v : Slope} → work ≡ slopesTo g t → s ≡ floatsAt g t → v ≡ slopeOf (count g) (g .state) work c s
           → spread floating nan (past (2 * count g) c) (alike (v .y)) (spread floating nan (past (1 * count g) c) (alike (v .x)) work) ≡ slopesTo g (t + 1)

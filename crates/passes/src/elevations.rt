@@ -36,7 +36,8 @@ fn means_at(n: usize, h: &[f64], state: &[f64], c: Corners, s: Sides) -> Means
 }
 
 // R of every node in the first run of the work room, Au and Av in the last two where advection is on, and S in the sums. What is lent may hold
-// anything, and each sum starts at zero.
+// anything, and each sum starts at zero. Au and Av come before R, so that both tests of the setting stand together: the compiler makes one of them, and works
+// out Xu, Yu, Xv and Yv only where it is on (docs/SPEED.md).
 pub(crate) fn assemble(
     work: &mut [f64],
     sums: &mut [u64],
@@ -65,8 +66,8 @@ pub(crate) fn assemble(
         let q = reading::places_at(x, y, c);
         let s = geometry::floats_of(q);
         let m = means_at(n, h, state, c, s);
-        sums::spread(work, 0 * n, c, elevation::shares(p, w, m, s));
         sums::spread_advection(work, n, c, p.advection, m);
+        sums::spread(work, 0 * n, c, elevation::shares(p, w, m, s));
         sums::spread_area(sums, c, geometry::area_of(geometry::sides_of(q)));
     }
 }

@@ -1,24 +1,22 @@
 use Prim.Native.Nat.{ℕ, _-_, _*_, _≤_}
 use mathlib.Core.Path.{_≡_, refl, sym, ap, _∙_}
-use mathlib.Core.Bool.{cond}
-use mathlib.Core.List.{List}
 use native.Mathlib.Omega.{arith}
 use borrow.Author.Needs.{needs}
 use lib.Dec.{lit<}
 use lib.ListN.{length}
-use lib.Ieee.{Float}
+use lib.Ieee.{nan}
 use Rattle.lists.specs.Table.{table}
 use Rattle.lists.specs.Gather.{gathered}
+use Rattle.lists.specs.Private.{past, spread}
 use Rattle.lists.proofs.TableLaws.{length-table}
 use Rattle.lists.proofs.RunLaws.{runs-length}
 use Rattle.quantities.specs.declared.Forcing.{Forcing}
-use Rattle.triangle.specs.Triangle.{advection}
 use Rattle.geometry.specs.Private.{nodesOf}
 use Rattle.mesh.specs.Lent.{mesh, E}
 use Rattle.mesh.proofs.SideLaws.{corners-read}
-use Rattle.passes.specs.Equations.{Given, given, count, cornersOf}
+use Rattle.passes.specs.Equations.{Given, given, count, cornersOf, floating, threeOf}
 use Rattle.passes.specs.Settle.{workRuns}
-use Rattle.passes.specs.Private.{Fits, spreadBoth}
+use Rattle.passes.specs.Private.{Fits}
 use Rattle.passes.proofs.PassLaws.{sumsTo, S-to, in-run, inside, its-area, its-means, its-shares, sum-more, area-more, S-room, sum-none}
 use Rattle.passes.proofs.SettleLaws.{cleared-room}
 use Rattle.passes.proofs.elevations.assemble.Statement.{statement}
@@ -70,18 +68,18 @@ means-at-requires c κs =
     let z = fits l (start l .args .f) in
     (inside _ z _ (k .before .loop-test .taken) (corner k), z .shape .sized .h, z .state)
 
-spread-requires : tie.Need-spread-requires Inv-loop μ-loop
-spread-requires c κs =
-    let k = c .before .before .before .before .before in
-    let l = k .before .before in
-    rw (long l) (in-run 0 workRuns (lit< tt) (inside _ (fits l (start l .args .f)) _ (k .before .loop-test .taken) (corner k)))
-
 spread-advection-requires : tie.Need-spread-advection-requires Inv-loop μ-loop
 spread-advection-requires c κs =
-    let first = c .before .before .before in
-    let k = first .before .before .before .before .before .before in
+    let k = c .before .before .before .before in
     let l = k .before .before in
-    (inside _ (fits l (start l .args .f)) _ (k .before .loop-test .taken) (corner k), first .spread .kept .0 ∙ long l)
+    (inside _ (fits l (start l .args .f)) _ (k .before .loop-test .taken) (corner k), long l)
+
+spread-requires : tie.Need-spread-requires Inv-loop μ-loop
+spread-requires c κs =
+    let both = c .before .before .before .before in
+    let k = both .before .before .before .before .before in
+    let l = k .before .before in
+    rw (both .spread-advection .kept .0 ∙ long l) (in-run 0 workRuns (lit< tt) (inside _ (fits l (start l .args .f)) _ (k .before .loop-test .taken) (corner k)))
 
 abbrev back : tie.After-area-of Inv-loop μ-loop → tie.After-places-at Inv-loop μ-loop
 back c = c .before .before .before .before .before .before .before .before .before .before .before .before .before .before
@@ -102,16 +100,18 @@ loop-again c =
     let q = back d in
     let k = q .before in
     let l = k .before .before in
-    let both = d .before .before .before .before .before in
-    let first = both .before .before .before .before in
-    let m = first .before .before .before in
+    let first = d .before .before .before .before .before in
+    let both = first .before .before .before .before .before in
+    let m = both .before .before in
+    let n = length (start l .args .x .now) in
+    let at = nodesOf (k .corners-at .result) in
     let h = k .before .loop-test .taken in (
       omega (arith, h),
       λ f.
           let z = fits l f in
           let inv = l .loop .inv .1 f in (
-            both .spread-advection .ensures
-                ∙ ap (λ (w : List Float). cond (start l .args .p .advection) (spreadBoth (length (start l .args .x .now)) (nodesOf (k .corners-at .result)) (advection (m .means-at .result)) w) w) (first .spread .ensures)
+            first .spread .ensures
+                ∙ ap (spread floating nan (past (0 * n) at) (threeOf (first .before .shares .result))) (both .spread-advection .ensures)
                 ∙ sum-more _ z _ h (corner k) (its-shares _ z _ h (corner k) (q .places-at .ensures) (m .before .floats-of .ensures) (m .means-at .ensures) (first .before .shares .ensures)) (its-means _ z _ h (corner k) (q .places-at .ensures) (m .before .floats-of .ensures) (m .means-at .ensures)) (inv .0),
             c .before .before .spread-area .ensures
                 ∙ area-more _ z _ h (corner k) (its-area _ z _ h (corner k) (q .places-at .ensures) (d .before .sides-of .ensures) (d .area-of .ensures)) (inv .1),
@@ -130,7 +130,7 @@ returns c =
 pub assemble-spec : {M : Type 1} → statement M
 assemble-spec =
     tie.close
-    (tie.spec Inv-loop μ-loop (λ c κs. tt) (λ c κs. tt) loop-holds (λ c κs. tt) places-at-requires (λ c κs. tt) means-at-requires (λ c. search needs) (λ c κs. tt) spread-requires spread-advection-requires (λ c κs. tt) (λ c κs. tt) spread-area-requires
+    (tie.spec Inv-loop μ-loop (λ c κs. tt) (λ c κs. tt) loop-holds (λ c κs. tt) places-at-requires (λ c κs. tt) means-at-requires spread-advection-requires (λ c. search needs) (λ c κs. tt) spread-requires (λ c κs. tt) (λ c κs. tt) spread-area-requires
     (λ c. let k = back (c .before .before .before) .before in record { fits = omega (arith, k .before .loop-test .taken, fits (k .before .before) (start (k .before .before) .args .f) .shape .sized .most-triangles) })
     (λ c. omega (arith, back (c .before .before .before) .before .before .loop-test .taken)) loop-again (λ c. let l = c .before in long l ∙ sym (start l .pre .1 .0))
     (λ c. let l = c .before in sums-long l ∙ sym (start l .pre .1 .1)) returns)
