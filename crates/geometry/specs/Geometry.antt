@@ -62,14 +62,6 @@ floatsWith s d = record {
 unfoldable pub floats : WholeSides → Sides
 floats s = floatsWith s (D s)
 
--- ---- the same for any sides: D where row 4 accepts them, and 0 where it does not
+-- ---- for any sides: D where row 4 accepts them, and 0 where it does not
 unfoldable pub nearD : WholeSides → ℤ
 nearD s = cond (allNear s) (D s) (pos 0)
-
--- a D above 0 as a count
-abbrev pub counted : ℤ → ℕ
-counted (pos n) = n
-counted (negsuc n) = 0
-
-unfoldable pub nearFloats : WholeSides → Sides
-nearFloats s = floatsWith s (nearD s)

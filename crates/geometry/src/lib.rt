@@ -1,10 +1,8 @@
-// Triangle geometry on single values, in whole numbers and as floats without loss. No slice is lent to any function here, and no public one asks anything of its caller.
-use quantities::Sides;
+// Triangle geometry on single values, in whole numbers; a node's sum also as a float, without loss. No slice is lent to any function here, and no public one asks anything of its caller.
 ghost use mathlib.Core.Path.{_≡_};
-ghost use Prim.Native.Nat.{_≤_, _^_};
-ghost use lib.IntN.{natAbs, pos, _-ℤ_};
+ghost use lib.IntN.{pos, _-ℤ_};
 ghost use lib.Ieee.{ofInt, binary64};
-ghost use Rattle.geometry.specs.Geometry.{sidesAt, near, allNear, nearD, counted, nearFloats};
+ghost use Rattle.geometry.specs.Geometry.{sidesAt, near, allNear, nearD};
 
 // The node numbers of a triangle's corners 1, 2 and 3.
 pub struct Corners {
@@ -77,41 +75,9 @@ pub fn twice_area(s: WholeSides) -> i64
     }
 }
 
-// D as a count.
-pub fn area_of(s: WholeSides) -> u64
-    ensures { λ r. ⌜ r ≡ counted (nearD s) ⌝ }
-{
-    let d = twice_area(s);
-    if 0 <= d { d as u64 } else { 0 }
-}
-
-// An a, a b or a D as a float.
-fn exact(v: i64) -> f64
-    requires { ⌜ natAbs v ≤ 2 ^ 53 ⌝ }
-    ensures { λ r. ⌜ r ≡ ofInt binary64 v ⌝ }
-{
-    v as f64
-}
-
 // A node's sum S as a float.
 pub fn sum_of(s: u64) -> f64
     ensures { λ r. ⌜ r ≡ ofInt binary64 (pos s) ⌝ }
 {
     std::num::nearest_u64_to_f64(s)
-}
-
-// The one place where a float a, b or D is made.
-pub fn floats_of(p: Places) -> Sides
-    ensures { λ r. ⌜ r ≡ nearFloats (sidesAt p) ⌝ }
-{
-    let s = sides_of(p);
-    Sides {
-        a1: exact(s.a1),
-        a2: exact(s.a2),
-        a3: exact(s.a3),
-        b1: exact(s.b1),
-        b2: exact(s.b2),
-        b3: exact(s.b3),
-        d: exact(twice_area(s)),
-    }
 }

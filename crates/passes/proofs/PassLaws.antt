@@ -7,7 +7,7 @@ use native.Mathlib.Omega.{arith}
 use borrow.Author.Tests.{ltb-true, ltb-false}
 use lib.Dec.{ltb, lit<}
 use lib.ListN.{getD, set, List·getD-eq-default}
-use lib.IntN.{pos}
+use lib.IntN.{pos, natAbs}
 use lib.Ieee.{Float, nan, binary64, ofInt}
 use Rattle.lists.specs.Table.{table}
 use Rattle.lists.specs.Runs.{inRun, runsOf}
@@ -29,9 +29,8 @@ use Rattle.elevation.specs.Elevation.{shares, riseOf}
 use Rattle.geometry.specs.declared.Places.{Places}
 use Rattle.geometry.specs.declared.Corners.{Corners}
 use Rattle.geometry.specs.declared.WholeSides.{WholeSides}
-use Rattle.geometry.specs.Geometry.{nearD, counted, nearFloats, sidesAt}
+use Rattle.geometry.specs.Geometry.{allNear, D, floats, sidesAt}
 use Rattle.geometry.specs.Private.{nodesOf}
-use Rattle.geometry.proofs.GeometryLaws.{near-floats, near-count}
 use Rattle.mesh.specs.Lent.{E}
 use Rattle.mesh.specs.Geometry.{sides, area}
 use Rattle.mesh.specs.Private.{placesOf, Sound}
@@ -86,29 +85,37 @@ module _ (g : Given) (z : Fits g) where
       pub inside : Below (nodesOf c) (count g)
       inside = rw ec (sound .nodes)
 
-      module _ {q : Places} (eq : q ≡ placesOf (g .mesh .x) (g .mesh .y) (nodesOf c)) where
-        its-sides : sidesAt q ≡ sides (g .mesh .x) (g .mesh .y) (cornersOf g t)
-        its-sides = sides-read (g .mesh .x) (g .mesh .y) q (nodesOf c) (cornersOf g t) eq ec
+      module _ {q : Places} (eq : q ≡ placesOf (g .mesh .x) (g .mesh .y) (nodesOf c)) {whole : WholeSides} (ew : whole ≡ sidesAt q) where
+        its-sides : whole ≡ sides (g .mesh .x) (g .mesh .y) (cornersOf g t)
+        its-sides = ew ∙ sides-read (g .mesh .x) (g .mesh .y) q (nodesOf c) (cornersOf g t) eq ec
 
-        pub its-floats : nearFloats (sidesAt q) ≡ floatsAt g t
-        its-floats = ap nearFloats its-sides ∙ near-floats _ (sound .small)
+        pub its-near : allNear whole ≡ true
+        its-near = rw its-sides (sound .small)
 
-        pub its-area : {s : WholeSides} {d : ℕ} → s ≡ sidesAt q → d ≡ counted (nearD s) → alike d ≡ areas g t
+        pub its-turn : D whole ≡ pos (natAbs (D whole))
         unfolding area
-        its-area es ed = ap alike (ed ∙ ap (λ (s : WholeSides). counted (nearD s)) (es ∙ its-sides) ∙ near-count _ (sound .small) (sound .turns))
+        its-turn = rw its-sides (sound .turns)
 
-        module _ {s : Sides} {m : Means} (es : s ≡ nearFloats (sidesAt q)) (em : m ≡ means (node g (c .n1)) (node g (c .n2)) (node g (c .n3)) s) where
-          pub its-means : m ≡ meansAt g t
-          unfolding meansAt
-          its-means =
-              em
-              ∙ (λ i.
-              let k = ec i in
-              means (node g (k .first)) (node g (k .second)) (node g (k .third)) ((es ∙ its-floats) i))
+        pub its-floats : {s : Sides} → s ≡ floats whole → s ≡ floatsAt g t
+        its-floats es = es ∙ ap floats its-sides
 
-          pub its-shares : {v : Shares} → v ≡ shares (lessIf (g .p .advection)) (g .p) (g .wind) m s → threeOf v ≡ sharesAt g t
-          unfolding sharesAt
-          its-shares ev = ap threeOf ev ∙ (λ i. threeOf (shares (sym (z .setting) i) (g .p) (g .wind) (its-means i) ((es ∙ its-floats) i)))
+        pub its-area : {d : ℕ} → d ≡ natAbs (D whole) → alike d ≡ areas g t
+        unfolding area
+        its-area ed = ap alike (ed ∙ ap (λ (s : WholeSides). natAbs (D s)) its-sides)
+
+      -- its record, and what its corners receive
+      module _ {s : Sides} {m : Means} (es : s ≡ floatsAt g t) (em : m ≡ means (node g (c .n1)) (node g (c .n2)) (node g (c .n3)) s) where
+        pub its-means : m ≡ meansAt g t
+        unfolding meansAt
+        its-means =
+            em
+            ∙ (λ i.
+            let k = ec i in
+            means (node g (k .first)) (node g (k .second)) (node g (k .third)) (es i))
+
+        pub its-shares : {v : Shares} → v ≡ shares (lessIf (g .p .advection)) (g .p) (g .wind) m s → threeOf v ≡ sharesAt g t
+        unfolding sharesAt
+        its-shares ev = ap threeOf ev ∙ (λ i. threeOf (shares (sym (z .setting) i) (g .p) (g .wind) (its-means i) (es i)))
 
     -- z + z' of a corner, and what the triangle adds to Px and to Py
     both-read : {work : List Float} (fs : List (ℕ → Float)) (i : ℕ) → i < count g → work ≡ runsOf (count g) (rise g ∷ fs)

@@ -64,11 +64,12 @@ pub(crate) fn assemble(
     for t in 0..e {
         let c = mesh::reading::corners_at(tri, t);
         let q = reading::places_at(x, y, c);
-        let s = geometry::floats_of(q);
+        let whole = geometry::sides_of(q);
+        let s = reading::floats_of(whole);
         let m = means_at(n, h, state, c, s);
         sums::spread_advection(work, n, c, p.advection, m);
         sums::spread(work, 0 * n, c, elevation::shares(p, w, m, s));
-        sums::spread_area(sums, c, geometry::area_of(geometry::sides_of(q)));
+        sums::spread_area(sums, c, reading::area_of(whole));
     }
 }
 

@@ -75,7 +75,7 @@ pub(crate) fn slopes(
     let e = tri.len() / 3;
     for t in 0..e {
         let c = mesh::reading::corners_at(tri, t);
-        let s = geometry::floats_of(reading::places_at(x, y, c));
+        let s = reading::floats_of(geometry::sides_of(reading::places_at(x, y, c)));
         let v = slope_of(n, state, work, c, s);
         sums::spread(work, 1 * n, c, sums::alike(v.x));
         sums::spread(work, 2 * n, c, sums::alike(v.y));

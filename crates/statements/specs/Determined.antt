@@ -81,12 +81,8 @@ use Rattle.geometry.proofs.all_near.Kinds as geometry·all-near-kinds
 use Rattle.geometry.proofs.all_near.Reads as geometry·all-near-reads
 use Rattle.geometry.proofs.twice_area.Kinds as geometry·twice-area-kinds
 use Rattle.geometry.proofs.twice_area.Reads as geometry·twice-area-reads
-use Rattle.geometry.proofs.area_of.Kinds as geometry·area-of-kinds
-use Rattle.geometry.proofs.area_of.Reads as geometry·area-of-reads
 use Rattle.geometry.proofs.sum_of.Kinds as geometry·sum-of-kinds
 use Rattle.geometry.proofs.sum_of.Reads as geometry·sum-of-reads
-use Rattle.geometry.proofs.floats_of.Kinds as geometry·floats-of-kinds
-use Rattle.geometry.proofs.floats_of.Reads as geometry·floats-of-reads
 use Rattle.mesh.proofs.reading.corners_at.Kinds as mesh·reading·corners-at-kinds
 use Rattle.mesh.proofs.reading.corners_at.Reads as mesh·reading·corners-at-reads
 use Rattle.mesh.proofs.shape_rows.Kinds as mesh·shape-rows-kinds
@@ -181,9 +177,7 @@ pub record EachDetermined : Type 0 where
   pub geometry·sides-of-determined : Determined geometry·sides-of-kinds.ps geometry·sides-of-kinds.r geometry·sides-of-reads.Post
   pub geometry·all-near-determined : Determined geometry·all-near-kinds.ps geometry·all-near-kinds.r geometry·all-near-reads.Post
   pub geometry·twice-area-determined : Determined geometry·twice-area-kinds.ps geometry·twice-area-kinds.r geometry·twice-area-reads.Post
-  pub geometry·area-of-determined : Determined geometry·area-of-kinds.ps geometry·area-of-kinds.r geometry·area-of-reads.Post
   pub geometry·sum-of-determined : Determined geometry·sum-of-kinds.ps geometry·sum-of-kinds.r geometry·sum-of-reads.Post
-  pub geometry·floats-of-determined : Determined geometry·floats-of-kinds.ps geometry·floats-of-kinds.r geometry·floats-of-reads.Post
   pub mesh·reading·corners-at-determined : Determined mesh·reading·corners-at-kinds.ps mesh·reading·corners-at-kinds.r mesh·reading·corners-at-reads.Post
   pub mesh·shape-rows-determined : Determined mesh·shape-rows-kinds.ps mesh·shape-rows-kinds.r mesh·shape-rows-reads.Post
   pub legs·leg-rows-determined : Determined legs·leg-rows-kinds.ps legs·leg-rows-kinds.r legs·leg-rows-reads.Post

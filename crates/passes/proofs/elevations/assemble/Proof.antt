@@ -17,7 +17,7 @@ use Rattle.mesh.proofs.SideLaws.{corners-read}
 use Rattle.passes.specs.Equations.{Given, given, count, cornersOf, floating, threeOf}
 use Rattle.passes.specs.Settle.{workRuns}
 use Rattle.passes.specs.Private.{Fits}
-use Rattle.passes.proofs.PassLaws.{sumsTo, S-to, in-run, inside, its-area, its-means, its-shares, sum-more, area-more, S-room, sum-none}
+use Rattle.passes.proofs.PassLaws.{sumsTo, S-to, in-run, inside, its-near, its-turn, its-floats, its-area, its-means, its-shares, sum-more, area-more, S-room, sum-none}
 use Rattle.passes.proofs.SettleLaws.{cleared-room}
 use Rattle.passes.proofs.elevations.assemble.Statement.{statement}
 use Rattle.passes.proofs.elevations.assemble.Tie as tie
@@ -61,46 +61,62 @@ places-at-requires c κs =
     let z = fits l (start l .args .f) in
     (z .shape .sized .y, inside _ z _ (c .before .loop-test .taken) (corner c))
 
+floats-of-requires : tie.Need-floats-of-requires Inv-loop μ-loop
+floats-of-requires c κs =
+    let k = c .before .before in
+    let l = k .before .before in
+    its-near _ (fits l (start l .args .f)) _ (k .before .loop-test .taken) (corner k) (c .before .places-at .ensures) (c .sides-of .ensures)
+
 means-at-requires : tie.Need-means-at-requires Inv-loop μ-loop
 means-at-requires c κs =
-    let k = c .before .before in
+    let k = c .before .before .before in
     let l = k .before .before in
     let z = fits l (start l .args .f) in
     (inside _ z _ (k .before .loop-test .taken) (corner k), z .shape .sized .h, z .state)
 
 spread-advection-requires : tie.Need-spread-advection-requires Inv-loop μ-loop
 spread-advection-requires c κs =
-    let k = c .before .before .before .before in
+    let k = c .before .before .before .before .before in
     let l = k .before .before in
     (inside _ (fits l (start l .args .f)) _ (k .before .loop-test .taken) (corner k), long l)
 
 spread-requires : tie.Need-spread-requires Inv-loop μ-loop
 spread-requires c κs =
     let both = c .before .before .before .before in
-    let k = both .before .before .before .before .before in
+    let k = both .before .before .before .before .before .before in
     let l = k .before .before in
     rw (both .spread-advection .kept .0 ∙ long l) (in-run 0 workRuns (lit< tt) (inside _ (fits l (start l .args .f)) _ (k .before .loop-test .taken) (corner k)))
 
-abbrev back : tie.After-area-of Inv-loop μ-loop → tie.After-places-at Inv-loop μ-loop
-back c = c .before .before .before .before .before .before .before .before .before .before .before .before .before .before
+abbrev back : tie.After-spread-area-arg Inv-loop μ-loop → tie.After-sides-of Inv-loop μ-loop
+back c = c .before .before .before .before .before .before .before .before .before .before .before .before
+
+area-of-requires : tie.Need-area-of-requires Inv-loop μ-loop
+area-of-requires c κs =
+    let w = back c in
+    let k = w .before .before in
+    let l = k .before .before in
+    let z = fits l (start l .args .f) in
+    let h = k .before .loop-test .taken in
+    (its-near _ z _ h (corner k) (w .before .places-at .ensures) (w .sides-of .ensures), its-turn _ z _ h (corner k) (w .before .places-at .ensures) (w .sides-of .ensures))
 
 spread-area-requires : tie.Need-spread-area-requires Inv-loop μ-loop
 spread-area-requires c κs =
-    let q = back c in
-    let k = q .before in
+    let w = back (c .before) in
+    let k = w .before .before in
     let l = k .before .before in
     let f = start l .args .f in
     let h = k .before .loop-test .taken in
-    let d = its-area _ (fits l f) _ h (corner k) (q .places-at .ensures) (c .before .sides-of .ensures) (c .area-of .ensures) in
+    let d = its-area _ (fits l f) _ h (corner k) (w .before .places-at .ensures) (w .sides-of .ensures) (c .area-of .ensures) in
     (rw (sums-long l) (inside _ (fits l f) _ h (corner k)), λ i. S-room _ (fits l f) (l .loop .t) i h d (l .loop .inv .1 f .1))
 
 loop-again : tie.Need-loop-again Inv-loop μ-loop
 loop-again c =
     let d = c .before .before .before in
-    let q = back d in
+    let w = back (d .before) in
+    let q = w .before in
     let k = q .before in
     let l = k .before .before in
-    let first = d .before .before .before .before .before in
+    let first = d .before .before .before .before in
     let both = first .before .before .before .before .before in
     let m = both .before .before in
     let n = length (start l .args .x .now) in
@@ -109,12 +125,13 @@ loop-again c =
       omega (arith, h),
       λ f.
           let z = fits l f in
-          let inv = l .loop .inv .1 f in (
+          let inv = l .loop .inv .1 f in
+          let s = its-floats _ z _ h (corner k) (q .places-at .ensures) (w .sides-of .ensures) (m .before .floats-of .ensures) in (
             first .spread .ensures
                 ∙ ap (spread floating nan (past (0 * n) at) (threeOf (first .before .shares .result))) (both .spread-advection .ensures)
-                ∙ sum-more _ z _ h (corner k) (its-shares _ z _ h (corner k) (q .places-at .ensures) (m .before .floats-of .ensures) (m .means-at .ensures) (first .before .shares .ensures)) (its-means _ z _ h (corner k) (q .places-at .ensures) (m .before .floats-of .ensures) (m .means-at .ensures)) (inv .0),
+                ∙ sum-more _ z _ h (corner k) (its-shares _ z _ h (corner k) s (m .means-at .ensures) (first .before .shares .ensures)) (its-means _ z _ h (corner k) s (m .means-at .ensures)) (inv .0),
             c .before .before .spread-area .ensures
-                ∙ area-more _ z _ h (corner k) (its-area _ z _ h (corner k) (q .places-at .ensures) (d .before .sides-of .ensures) (d .area-of .ensures)) (inv .1),
+                ∙ area-more _ z _ h (corner k) (its-area _ z _ h (corner k) (q .places-at .ensures) (w .sides-of .ensures) (d .area-of .ensures)) (inv .1),
           ),
     )
 
@@ -130,7 +147,7 @@ returns c =
 pub assemble-spec : {M : Type 1} → statement M
 assemble-spec =
     tie.close
-    (tie.spec Inv-loop μ-loop (λ c κs. tt) (λ c κs. tt) loop-holds (λ c κs. tt) places-at-requires (λ c κs. tt) means-at-requires spread-advection-requires (λ c. search needs) (λ c κs. tt) spread-requires (λ c κs. tt) (λ c κs. tt) spread-area-requires
-    (λ c. let k = back (c .before .before .before) .before in record { fits = omega (arith, k .before .loop-test .taken, fits (k .before .before) (start (k .before .before) .args .f) .shape .sized .most-triangles) })
-    (λ c. omega (arith, back (c .before .before .before) .before .before .loop-test .taken)) loop-again (λ c. let l = c .before in long l ∙ sym (start l .pre .1 .0))
+    (tie.spec Inv-loop μ-loop (λ c κs. tt) (λ c κs. tt) loop-holds (λ c κs. tt) places-at-requires (λ c κs. tt) floats-of-requires means-at-requires spread-advection-requires (λ c. search needs) (λ c κs. tt) spread-requires area-of-requires spread-area-requires
+    (λ c. let k = back (c .before .before .before .before) .before .before in record { fits = omega (arith, k .before .loop-test .taken, fits (k .before .before) (start (k .before .before) .args .f) .shape .sized .most-triangles) })
+    (λ c. omega (arith, back (c .before .before .before .before) .before .before .before .loop-test .taken)) loop-again (λ c. let l = c .before in long l ∙ sym (start l .pre .1 .0))
     (λ c. let l = c .before in sums-long l ∙ sym (start l .pre .1 .1)) returns)

@@ -16,7 +16,7 @@ use Rattle.mesh.proofs.SideLaws.{corners-read}
 use Rattle.passes.specs.Equations.{Given, given, cornersOf, floating}
 use Rattle.passes.specs.Settle.{workRuns}
 use Rattle.passes.specs.Private.{Fits, riseRoom}
-use Rattle.passes.proofs.PassLaws.{slopesTo, in-run, inside, its-floats, slope-more}
+use Rattle.passes.proofs.PassLaws.{slopesTo, in-run, inside, its-near, its-floats, slope-more}
 use Rattle.passes.proofs.velocities.slopes.Statement.{statement}
 use Rattle.passes.proofs.velocities.slopes.Tie as tie
 
@@ -62,20 +62,21 @@ loop-again c =
     let second = c .before .before in
     let first = second .before .before .before .before .before in
     let v = first .before .before .before in
-    let q = v .before .before .before in
+    let w = v .before .before .before in
+    let q = w .before in
     let k = q .before in
     let l = k .before .before in
     let h = k .before .loop-test .taken in
     let n = length (start l .args .x .now) in
     let at = nodesOf (k .corners-at .result) in (
       omega (arith, h),
-      λ p w f e.
-          let g = its (start l) p w f in
+      λ p wind f e.
+          let g = its (start l) p wind f in
           let y = fits l in
           let z : Fits g = record { shape = y .shape; state = y .state; setting = refl } in
           second .spread2 .ensures
           ∙ (λ i. spread floating nan (past (2 * n) at) (second .before .alike2 .ensures i) ((first .spread .ensures ∙ ap (λ (a : Three Float). spread floating nan (past (1 * n) at) a (l .loop .work)) (first .before .alike .ensures)) i))
-          ∙ slope-more g z _ h (corner k) (l .loop .inv .1 p w f e) (v .before .before .floats-of .ensures ∙ its-floats g z _ h (corner k) (q .places-at .ensures)) (v .slope-of .ensures),
+          ∙ slope-more g z _ h (corner k) (l .loop .inv .1 p wind f e) (its-floats g z _ h (corner k) (q .places-at .ensures) (w .sides-of .ensures) (v .before .before .floats-of .ensures)) (v .slope-of .ensures),
     )
 
 returns : tie.Need-returns Inv-loop μ-loop
@@ -88,14 +89,17 @@ pub slopes-spec : {M : Type 1} → statement M
 slopes-spec =
     tie.close
     (tie.spec Inv-loop μ-loop loop-holds (λ c κs. tt) (λ c κs. (fits (c .before .before) .shape .sized .y, below c)) (λ c κs. tt)
-    (λ c κs. let k = c .before .before .before in let l = k .before .before in (below k, fits l .state, long l))
-    (λ c. record { fits = omega (arith, fits (c .before .before .before .before .before .before .before) .shape .sized .most-nodes) }) (λ c κs. tt)
-    (λ c κs. let k = c .before .before .before .before .before .before in rw (long (k .before .before)) (in-run 1 workRuns (lit< tt) (below k)))
-    (λ c. record { fits = omega (arith, fits (c .before .before .before .before .before .before .before .before .before .before .before .before) .shape .sized .most-nodes) })
+    (λ c κs.
+    let k = c .before .before in
+    its-near _ (fits (k .before .before)) _ (k .before .loop-test .taken) (corner k) (c .before .places-at .ensures) (c .sides-of .ensures))
+    (λ c κs. let k = c .before .before .before .before in let l = k .before .before in (below k, fits l .state, long l))
+    (λ c. record { fits = omega (arith, fits (c .before .before .before .before .before .before .before .before) .shape .sized .most-nodes) }) (λ c κs. tt)
+    (λ c κs. let k = c .before .before .before .before .before .before .before in rw (long (k .before .before)) (in-run 1 workRuns (lit< tt) (below k)))
+    (λ c. record { fits = omega (arith, fits (c .before .before .before .before .before .before .before .before .before .before .before .before .before) .shape .sized .most-nodes) })
     (λ c κs. tt)
     (λ c κs.
     let d = c .before .before .before .before in
-    let k = d .before .before .before .before .before .before .before in
+    let k = d .before .before .before .before .before .before .before .before in
     rw (d .spread .kept .0 ∙ long (k .before .before)) (in-run 2 workRuns (lit< tt) (below k)))
-    (λ c. let t = c .before .before .before .before .before .before .before .before .before .before .before .before .before .before .before in record { fits = omega (arith, t .loop-test .taken, fits (t .before) .shape .sized .most-triangles) })
+    (λ c. let t = c .before .before .before .before .before .before .before .before .before .before .before .before .before .before .before .before in record { fits = omega (arith, t .loop-test .taken, fits (t .before) .shape .sized .most-triangles) })
     (λ c. omega arith) loop-again (λ c. let l = c .before in long l ∙ sym (ap length (start l .pre .1) ∙ runs-length _ _)) returns)

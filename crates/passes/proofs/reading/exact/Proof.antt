@@ -1,9 +1,9 @@
 use lib.Dec.{T}
 use lib.Ieee.{binary64, inFloat}
 use borrow.Author.Needs.{needs}
 use Rattle.geometry.proofs.SizeLaws.{in-float}
-use Rattle.geometry.proofs.exact.Statement.{statement}
-use Rattle.geometry.proofs.exact.Tie as tie
+use Rattle.passes.proofs.reading.exact.Statement.{statement}
+use Rattle.passes.proofs.reading.exact.Tie as tie
 
 int-to-float-result : tie.Need-int-to-float-result
 int-to-float-result c = let h : T (inFloat binary64 (c .before .args .v)) = in-float _ (c .before .pre) in search needs
