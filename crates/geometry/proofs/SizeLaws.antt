@@ -23,7 +23,7 @@ mag-le (negsuc n) = omega arith
 pub holds : (w : Width) (z : ℤ) → natAbs z < 2 ^ hbits w → SFits w z
 holds w z h = record { sfits = lt-of-le-of-lt (mag-le z) h }
 
-pub held-size : (w : Width) (z : ℤ) → SFits w z → natAbs z ≤ 2 ^ hbits w
+held-size : (w : Width) (z : ℤ) → SFits w z → natAbs z ≤ 2 ^ hbits w
 held-size w (pos n) h = let k = h .sfits in omega arith
 held-size w (negsuc n) h = h .sfits
 

@@ -1,5 +1,4 @@
 -- Document 01, "Triangle geometry", on single values.
-use Prim.Native.Nat.{ℕ}
 use mathlib.Core.Bool.{Bool, true, false, _&&_, cond}
 use lib.IntN.{ℤ, pos, negsuc, natAbs, _-ℤ_, _*ℤ_}
 use lib.Dec.{leb}

@@ -1,4 +1,3 @@
-use mathlib.Core.Path.{refl}
 use lib.Ieee.{round, ofBits}
 use Rattle.rows.specs.Numbers.{decimal}
 use Rattle.velocity.specs.Velocity.{flow, U′, V′, n, Rx, Ry, wx, wy, gx, gy, q, m, p, r, H′, H}
