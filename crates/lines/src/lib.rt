@@ -68,7 +68,7 @@ impl Line {
         }
         let bytes = self.bytes;
         let tally = digits::tallied(&bytes[0..at]);
-        let mut line = self.append(1, 256 - tally.sum);
+        let mut line = self.append(1, 256 - tally.sum as u64);
         line.bytes[at + 2] = b'\n';
         line.len = at + 3;
         line

@@ -17,17 +17,16 @@ abbrev μ-loop : tie.MeasureT-loop
 
 loop-again : tie.Need-loop-again Inv-loop μ-loop
 loop-again c =
-    let r = c .before in
-    let p = r .before .before in
+    let p = c .before .before in
     let b = bytes (p .before .before .args .text .now) in
     let k = p .loop .k in
     let l : k < length (p .loop .out) = omega arith in
     let m : k < length b = rw bytes-length (omega arith) in
-    (omega arith, simp length-set (p .loop .inv .1), rw (add-one, take-suc-set (p .loop .out) k (r .pair-at .result .byte) l, take-suc b k 0 m, p .loop .inv .2, r .pair-at .ensures .0))
+    (omega arith, simp length-set (p .loop .inv .1), rw (add-one, take-suc-set (p .loop .out) k (c .pair-at .result .byte) l, take-suc b k 0 m, p .loop .inv .2, c .pair-at .ensures .0))
 
 pub frame-spec : {M : Type 1} → statement M
 frame-spec =
     tie.close
-    (tie.spec Inv-loop μ-loop (λ c. (omega arith, refl, refl)) (λ c κs. omega arith) (λ c. omega arith) (λ c. omega arith) (λ c. omega arith)
+    (tie.spec Inv-loop μ-loop (λ c. (omega arith, refl, refl)) (λ c κs. omega arith) (λ c. omega arith) (λ c. omega arith)
     (λ c. omega arith) loop-again
     (λ c. let last : c .before .loop .k ≡ 36 = omega arith in sym (take-all 36 (c .before .loop .out) (omega arith)) ∙ (rw last at (c .before .loop .inv .2))))

@@ -46,4 +46,4 @@ pub tallied-spec : {M : Type 1} → statement M
 tallied-spec =
     tie.close
     (tie.spec Inv-loop μ-loop (λ c. (omega arith, ap (λ x. x % 256) (omega arith), refl)) (λ c κs. omega arith) (λ c. omega arith) (λ c. omega arith)
-    (λ c. omega arith) loop-again returns)
+    (λ c. omega arith) (λ c. omega arith) loop-again returns)

@@ -58,5 +58,5 @@ value-spec =
     tie.close
     (tie.spec Inv-loop μ-loop (λ c. rw (lt-leb _ _ (c .if1 .taken))) returns-2 (λ c. (omega arith, omega arith, refl)) (λ c. omega (arith, small c))
     (λ c. omega (arith, within (c .before .before))) (λ c κs. omega (arith, within (c .before .before)))
-    (λ c. omega (arith, small (c .before .before))) (λ c. omega (arith, within (c .before .before .before .before))) (λ c. omega arith) loop-again
+    (λ c. omega arith) (λ c. omega (arith, small (c .before .before))) (λ c. omega (arith, within (c .before .before .before .before))) (λ c. omega arith) loop-again
     returns-3)

@@ -23,4 +23,4 @@ seal-spec =
     tie.close
     (tie.spec (λ c. sym (appended-full _ _ (omega arith))) (λ c. omega arith) (λ c. omega arith)
     (λ c. let z : length (c .before .before .before .args .self .bytes) ≡ longest = search needs in omega arith) (λ c κs. tt)
-    (λ c. rw (c .before .tallied .ensures) (omega arith)) (λ c κs. tt) (λ c. omega arith) (λ c. omega arith) (λ c. omega arith) returns-2)
+    (λ c. omega arith) (λ c. rw (c .before .tallied .ensures) (omega arith)) (λ c κs. tt) (λ c. omega arith) (λ c. omega arith) (λ c. omega arith) returns-2)
