@@ -1,5 +1,5 @@
 -- What row 4 leaves of a triangle's a and b: each is small, and so are the products, D, and all of them as floats.
-use Prim.Native.Nat.{_*_, _^_, _≤_}
+use Prim.Native.Nat.{_^_, _≤_}
 use mathlib.Core.Path.{_≡_, sym, ap, subst, _∙_}
 use mathlib.Core.Bool.{true, false, _&&_}
 use native.Mathlib.Omega.{arith}
