@@ -1,13 +1,10 @@
 -- The way back, whole: a save's own text is loaded to the run that was saved, and what any load gives is saved and loaded again.
 use Prim.Native.Nat.{ℕ, _+_, _*_, _<_, _≤_}
 use mathlib.Core.Path.{_≡_, refl, sym, ap, subst, _∙_}
-use mathlib.Core.Bool.{Bool, true, false}
 use mathlib.Core.List.{List, []}
 use native.Mathlib.Omega.{arith}
-use borrow.Author.Tests.{eqb-true, eq-eqb, le-leb}
-use lib.Dec.{eqb}
+use borrow.Author.Tests.{eq-eqb, le-leb}
 use lib.ListN.{length, take}
-use lib.Seq.{take-at}
 use lib.Ieee.{Float}
 use Rattle.rows.specs.declared.Answer.{Answer}
 use Rattle.rows.specs.Scan.{accepted}
@@ -24,7 +21,7 @@ use Rattle.saves.specs.Lines.{saveLength}
 use Rattle.saves.specs.Save.{saveText, saveAnswer, wrote, saveOf}
 use Rattle.loads.specs.Load.{row10Read, clockOf, loadAnswer, loadedState, loadOf}
 use Rattle.saves.proofs.LineLaws.{lines-long, save-long}
-use Rattle.saves.proofs.SaveLaws.{save-writes, save-accepts}
+use Rattle.saves.proofs.SaveLaws.{save-writes, save-accepts, save-answered, save-text}
 use Rattle.loads.proofs.LoadLaws.{load-took, loaded-rows, loaded-wind}
 use Rattle.loads.proofs.StorableLaws.{clock-storable, state-storable}
 use Rattle.loads.proofs.BackLaws.{lines-fine, clock-back, node-back, state-back}
@@ -67,23 +64,13 @@ module _ (m : Mesh) (p : Parameters) (state : List Float) (k : Clock) (s : Stora
 
   -- ---- a save and a load
   module _ (t : List ℕ) (done : saveOf m p state k t .answer .number ≡ 0) where
-    answered : saveAnswer m p state k t .number ≡ 0
-    unfolding saveOf
-    answered = go (eqb (saveAnswer m p state k t .number) 0) refl
-      where
-        go : (b : Bool) → eqb (saveAnswer m p state k t .number) 0 ≡ b → saveAnswer m p state k t .number ≡ 0
-        go true q = eqb-true _ _ q
-        go false q = rw q at done
-
-    written : take (saveOf m p state k t .answer .place) (saveOf m p state k t .text) ≡ saveText (N m) (E m) state k
-    unfolding saveOf
-    written = rw (eq-eqb _ _ answered) (take-at _ _ _ (lines-long (N m) (E m) state k (N m + 2) ∙ save-long (N m)))
-
     -- the bytes that an accepted save wrote, as many as its place says, are loaded to the run that was saved
     pub saved-loaded : (clock : Clock)
         → loadOf m p (take (saveOf m p state k t .answer .place) (saveOf m p state k t .text)) old clock ≡ after (record { answer = accepted; clock = k }) state
     unfolding saveAnswer
-    saved-loaded clock = rw written (load-own (then-first _ _ answered) (then-first _ _ (then-rest _ _ answered)) clock)
+    saved-loaded clock =
+        let answered = save-answered m p state k t done in
+        rw (save-text m p state k t done) (load-own (then-first _ _ answered) (then-first _ _ (then-rest _ _ answered)) clock)
 
 -- ---- what an accepted load gives
 -- the run that a load leaves is saved into a text, and that is loaded over another run and gives it back

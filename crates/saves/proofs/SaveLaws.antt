@@ -1,9 +1,12 @@
 -- The outcomes of a save: refused, and written.
-use Prim.Native.Nat.{ℕ, _≤_}
-use mathlib.Core.Path.{_≡_, ap, _∙_}
+use Prim.Native.Nat.{ℕ, _+_, _≤_}
+use mathlib.Core.Path.{_≡_, refl, ap, _∙_}
+use mathlib.Core.Bool.{Bool, true, false}
 use mathlib.Core.List.{List, _++_}
-use borrow.Author.Tests.{eq-eqb, ne-eqb, le-leb}
-use lib.ListN.{length, drop}
+use borrow.Author.Tests.{eqb-true, eq-eqb, ne-eqb, le-leb}
+use lib.Dec.{eqb}
+use lib.ListN.{length, take, drop}
+use lib.Seq.{take-at}
 use lib.Ieee.{Float}
 use Rattle.rows.specs.declared.Answer.{Answer}
 use Rattle.rows.proofs.ScanLaws.{row-holds, then-next, same-number, other-number}
@@ -16,6 +19,7 @@ use Rattle.rows.specs.Scan.{accepted}
 use Rattle.surge.specs.Lent.{windOf}
 use Rattle.saves.specs.Lines.{saveLength}
 use Rattle.saves.specs.Save.{saveText, row24, saveAnswer, saveOut, wrote, saveOf}
+use Rattle.saves.proofs.LineLaws.{lines-long, save-long}
 
 module _ (m : Mesh) (p : Parameters) (state : List Float) (k : Clock) (t : List ℕ) where
   pub save-refused : {a : Answer} → a ≡ saveAnswer m p state k t → (a .number ≡ 0 → ⊥) → saveOut a t ≡ saveOf m p state k t
@@ -39,3 +43,17 @@ module _ (m : Mesh) (p : Parameters) (state : List Float) (k : Clock) (t : List 
 
     pub save-accepts : saveOf m p state k t .answer .number ≡ 0
     save-accepts = ap (λ (a : Answer). a .number) save-writes
+
+  -- an accepted save: its rows accepted, and the bytes that it wrote, as many as its place says, are the run's text
+  module _ (done : saveOf m p state k t .answer .number ≡ 0) where
+    pub save-answered : saveAnswer m p state k t .number ≡ 0
+    unfolding saveOf
+    save-answered = go (eqb (saveAnswer m p state k t .number) 0) refl
+      where
+        go : (b : Bool) → eqb (saveAnswer m p state k t .number) 0 ≡ b → saveAnswer m p state k t .number ≡ 0
+        go true q = eqb-true _ _ q
+        go false q = rw q at done
+
+    pub save-text : take (saveOf m p state k t .answer .place) (saveOf m p state k t .text) ≡ saveText (N m) (E m) state k
+    unfolding saveOf
+    save-text = rw (eq-eqb _ _ save-answered) (take-at _ _ _ (lines-long (N m) (E m) state k (N m + 2) ∙ save-long (N m)))
