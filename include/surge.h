@@ -157,7 +157,8 @@ uint32_t surge_save(
  *   state         4N floats, written when accepted: the saved state. As found after a refusal. What it holds before is not looked at.
  *   place, value  written
  *   step, wx, wy  one number each, read and written: the saved clock when accepted, and else what was found
- *   text          the save: exactly the 70+73N bytes that surge_save wrote, without the room past them
+ *   text          the save: exactly the 70+73N bytes that surge_save wrote, without the room past them. Each of its letters A to F may
+ *                 stand in lower case: a save has many readable spellings, all loaded alike, and one written form.
  *   the others    read
  */
 uint32_t surge_load(
@@ -177,7 +178,7 @@ uint32_t surge_load(
  *
  *   place, value  written
  *   elevation, wx, wy   one number each, written: the forcing when accepted, and three +0 when refused. What they hold before is not read.
- *   line          the line with its line feed, 57 bytes; any other number is refused with 20
+ *   line          the line with its line feed, 57 bytes; any other number is refused with 20. Each digit may be of either case.
  *   expected      the sequence number due. Above 65,535 no line has it, so a line that is well formed is then refused with 22.
  */
 uint32_t surge_read_forcing(

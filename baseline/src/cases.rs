@@ -5,6 +5,7 @@
 use crate::frames::{Line, FORCING, HEAD};
 use crate::printing::Run;
 use crate::records::Forcing;
+use std::ops::Range;
 
 /// An input of the printing program.
 pub struct Case {
@@ -27,6 +28,13 @@ const BREEZE: [f64; 3] = [0.25, 0.015625, -0.0078125];
 
 /// How many lines there are: sequences 0 to 65,535.
 const ALL: u32 = 65_536;
+
+/// The digits of a forcing line's sequence and check byte.
+const SEQUENCE: Range<usize> = 2..6;
+const CHECK: Range<usize> = 54..56;
+
+/// The digits of a forcing line before its check byte.
+const BEFORE_CHECK: Range<usize> = 0..54;
 
 /// A frame of three patterns, with the right check byte.
 fn frame(kind: crate::frames::Kind, sequence: u32, patterns: [u64; 3]) -> Vec<u8> {
@@ -57,6 +65,22 @@ fn spoiled(mut line: Vec<u8>, place: usize, byte: u8) -> Vec<u8> {
     line
 }
 
+/// A line with some of its digits in lower case.
+fn lowered(mut line: Vec<u8>, places: Range<usize>) -> Vec<u8> {
+    line[places].make_ascii_lowercase();
+    line
+}
+
+/// Lines with their letters in both cases: one in lower case, one in upper case
+/// and so on.
+fn mixed(mut lines: Vec<u8>) -> Vec<u8> {
+    let letters = lines.iter_mut().filter(|byte| byte.is_ascii_alphabetic());
+    for letter in letters.step_by(2) {
+        letter.make_ascii_lowercase();
+    }
+    lines
+}
+
 /// A line with the lowest bit of one of its characters turned: another digit.
 fn turned(mut line: Vec<u8>, place: usize) -> Vec<u8> {
     line[place] ^= 1;
@@ -79,9 +103,11 @@ fn beyond(limit: f64) -> f64 {
 pub fn cases() -> Vec<Case> {
     let mut cases = Cases(Vec::new());
     cases.accepted();
+    cases.spellings();
     cases.row_12();
     cases.row_13();
     cases.rows_20_to_22();
+    cases.refused_in_lower_case();
     cases.order();
     cases.past_the_last();
     cases.0
@@ -95,18 +121,18 @@ impl Cases {
         self.0.push(Case { name, input });
     }
 
-    /// A bad line as the first of the input, and as its fourth; more lines
-    /// follow, which are not to be read.
-    fn bad(&mut self, name: &str, bad: impl Fn(u32) -> Vec<u8>) {
+    /// A line as the first of the input, and as its fourth; one more follows, which
+    /// is not to be read where the line is a bad one.
+    fn first_and_later(&mut self, name: &str, any: impl Fn(u32) -> Vec<u8>) {
         for (which, before) in [("first", 0), ("later", 3)] {
             let mut input = lines(before, BREEZE);
-            input.extend(bad(before));
+            input.extend(any(before));
             input.extend(line(before + 1, CALM));
             self.add(&format!("{name}_{which}"), input);
         }
     }
 
-    /// The same, as the fourth line alone.
+    /// A bad line as the fourth alone.
     fn bad_later(&mut self, name: &str, bad: impl Fn(u32) -> Vec<u8>) {
         let input = [lines(3, BREEZE), bad(3), line(4, CALM)].concat();
         self.add(name, input);
@@ -138,10 +164,31 @@ impl Cases {
         self.add("all_lines", long_log(ALL));
     }
 
+    /// "Their new server writes a to f. A digit now means the same in either case":
+    /// each of these inputs prints what it prints in upper case. All six letters
+    /// stand in the logs, from line 10 on in the sequence too.
+    fn spellings(&mut self) {
+        self.first_and_later("lower_case", |s| line(s, BREEZE).to_ascii_lowercase());
+        let log = long_log(48);
+        self.add("lower_case_log", log.to_ascii_lowercase());
+        self.add("mixed_case_log", mixed(log.clone()));
+        let each = |change: fn(Vec<u8>) -> Vec<u8>| -> Vec<u8> {
+            let lines = log.chunks(57).map(<[u8]>::to_vec);
+            lines.flat_map(change).collect()
+        };
+        self.add("lower_case_check_alone", each(|l| lowered(l, CHECK)));
+        self.add("lower_case_sequence_alone", each(|l| lowered(l, SEQUENCE)));
+        self.add("upper_case_check_alone", each(|l| lowered(l, BEFORE_CHECK)));
+        // up to sequences 0A0A to 0A0F, with letters in both bytes
+        let log = long_log(2_576);
+        self.add("lower_case_long_log", log.to_ascii_lowercase());
+        self.add("mixed_case_long_log", mixed(log));
+    }
+
     fn row_12(&mut self) {
         for (field, name) in FIELDS.iter().enumerate() {
             let limit = LIMITS[field];
-            self.bad(&format!("row12_{name}_above"), |s| {
+            self.first_and_later(&format!("row12_{name}_above"), |s| {
                 line(s, with(field, beyond(limit)))
             });
             for (what, number) in [
@@ -184,12 +231,11 @@ impl Cases {
 
     fn rows_20_to_22(&mut self) {
         let text = |change: fn(Vec<u8>) -> Vec<u8>| move |s: u32| change(line(s, BREEZE));
-        self.bad("row20_lower_case", text(|l| l.to_ascii_lowercase()));
-        self.bad("row20_too_long", text(|l| [b"0", &l[..]].concat()));
+        self.first_and_later("row20_too_long", text(|l| [b"0", &l[..]].concat()));
         self.bad_later("row20_two_more", text(|l| [b"00", &l[..]].concat()));
-        self.bad("row20_too_short", text(|l| l[1..].to_vec()));
+        self.first_and_later("row20_too_short", text(|l| l[1..].to_vec()));
         self.bad_later("row20_two_less", text(|l| l[2..].to_vec()));
-        self.bad("row20_return", text(|l| [&l[..56], b"\r\n"].concat()));
+        self.first_and_later("row20_return", text(|l| [&l[..56], b"\r\n"].concat()));
         self.bad_later("row20_return_only", text(|l| spoiled(l, 56, b'\r')));
         self.bad_later("row20_joined", text(|l| l[..56].to_vec()));
         self.bad_later("row20_blank_line", text(|l| [b"\n", &l[..]].concat()));
@@ -211,16 +257,48 @@ impl Cases {
         self.add("row20_no_line_feed_at_all", vec![b'0'; 57 * 3]);
         self.add("row20_57_zeros", vec![b'0'; 57]);
         self.add("row20_57_line_feeds", vec![b'\n'; 57]);
-        self.bad("row21_check", text(|l| turned(l, 55)));
+        self.first_and_later("row21_check", text(|l| turned(l, 55)));
         self.bad_later("row21_digit", text(|l| turned(l, 9)));
-        self.bad("row22_kind", |s| frame(HEAD, s, BREEZE.map(f64::to_bits)));
-        self.bad("row22_next", |s| line(s + 1, BREEZE));
+        self.first_and_later("row22_kind", |s| frame(HEAD, s, BREEZE.map(f64::to_bits)));
+        self.first_and_later("row22_next", |s| line(s + 1, BREEZE));
         self.bad_later("row22_far", |s| line(s + 256, BREEZE));
         self.add("row22_again", [line(0, BREEZE), line(0, BREEZE)].concat());
         self.add(
             "row22_starts_at_one",
             [line(1, BREEZE), line(2, BREEZE)].concat(),
         );
+    }
+
+    /// Lines in lower case, each refused by the row that refuses it in upper case;
+    /// and the characters next to the digits, which are none.
+    fn refused_in_lower_case(&mut self) {
+        let lower = |s: u32, numbers: [f64; 3]| line(s, numbers).to_ascii_lowercase();
+        for (name, place) in [
+            ("kind", 0),
+            ("sequence", 4),
+            ("elevation", 9),
+            ("wx", 37),
+            ("wy", 38),
+            ("check", 55),
+        ] {
+            self.bad_later(&format!("row20_lower_case_g_{name}"), |s| {
+                spoiled(lower(s, BREEZE), place, b'g')
+            });
+        }
+        for (name, byte) in [("backtick", b'`'), ("at", b'@'), ("capital_g", b'G')] {
+            self.bad_later(&format!("row20_lower_case_{name}"), |s| {
+                spoiled(lower(s, BREEZE), 7, byte)
+            });
+        }
+        self.bad_later("row20_backtick", |s| spoiled(line(s, BREEZE), 7, b'`'));
+        self.first_and_later("row21_lower_case", |s| turned(lower(s, BREEZE), 54));
+        self.bad_later("row21_lower_case_check_alone", |s| {
+            lowered(turned(line(s, BREEZE), 9), CHECK)
+        });
+        self.first_and_later("row22_lower_case", |s| lower(s + 0xABCD, BREEZE));
+        self.first_and_later("row12_lower_case", |s| {
+            lower(s, with(2, -beyond(LIMITS[2])))
+        });
     }
 
     /// Lines that two rows refuse: the first in the order 20, 21, 22, 12 answers.

@@ -6,8 +6,10 @@ mod advection;
 mod conditions;
 mod friction;
 mod grids;
+mod layouts;
 mod names;
 pub(crate) mod nans;
+mod spellings;
 mod wanted;
 
 use crate::generate::{generate, Family};
@@ -64,6 +66,7 @@ struct Trail {
     /// In how many steps in a row each of [`IN_A_ROW`] was met.
     in_a_row: [usize; 2],
     crossing: advection::Crossing,
+    latest: spellings::Latest,
 }
 
 impl Trail {
@@ -76,6 +79,8 @@ impl Trail {
         }
         let mut met = conditions(script, called);
         met.extend(nans::kept(script, called));
+        met.extend(spellings::conditions(script, called));
+        met.extend(self.latest.follow(script, called));
         if number == 0 {
             met.extend(self.crossing.follow(script, called));
         }

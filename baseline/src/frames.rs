@@ -12,15 +12,15 @@ const LONGEST_FRAME: usize = 36;
 /// The one pattern that every NaN is read and written as.
 const NAN_PATTERN: u64 = 0x7FF8_0000_0000_0000;
 
-/// "Upper-case hexadecimal".
+/// "Upper-case hexadecimal": "We still write upper case."
 const DIGITS: &[u8; 16] = b"0123456789ABCDEF";
 
-/// The two upper-case digits of a byte.
+/// The two digits that a byte is written as.
 pub(crate) fn two_digits(byte: u8) -> [u8; 2] {
     [byte >> 4, byte & 0x0F].map(|digit| DIGITS[usize::from(digit)])
 }
 
-/// The byte that two upper-case digits stand for.
+/// The byte that two digits stand for, each of either case.
 pub(crate) fn byte_of([high, low]: [u8; 2]) -> Option<u8> {
     Some(16 * digit(high)? + digit(low)?)
 }
@@ -152,7 +152,8 @@ impl Frame {
     /// fault: "20, 21, 22".
     ///
     /// 20: "line of wrong length, wrong digit, no line feed". 21: "check byte".
-    /// 22: "kind or sequence".
+    /// 22: "kind or sequence". All but 20 are asked of the frame's bytes, which
+    /// do not tell how their digits were spelled.
     pub fn read(line: &[u8], kind: Kind, sequence: u32) -> Result<Frame, u32> {
         let Some((b'\n', digits)) = line.split_last() else {
             return Err(20);
@@ -200,11 +201,13 @@ impl Frame {
     }
 }
 
-/// What an upper-case hexadecimal digit stands for.
+/// What a hexadecimal digit stands for: "A digit now means the same in either
+/// case".
 fn digit(byte: u8) -> Option<u8> {
     match byte {
         b'0'..=b'9' => Some(byte - b'0'),
         b'A'..=b'F' => Some(byte - b'A' + 10),
+        b'a'..=b'f' => Some(byte - b'a' + 10),
         _ => None,
     }
 }

@@ -10,6 +10,7 @@ mod nans;
 mod pen;
 mod runs;
 mod settings;
+pub(crate) mod spellings;
 mod texts;
 pub(crate) mod values;
 pub(crate) mod worlds;

@@ -142,7 +142,8 @@ fn sort_of(byte: u8) -> &'static str {
     }]
 }
 
-fn patterns(values: &[f64]) -> Vec<u64> {
+/// The patterns of floats.
+pub(crate) fn patterns(values: &[f64]) -> Vec<u64> {
     values.iter().map(|value| value.to_bits()).collect()
 }
 
@@ -224,7 +225,8 @@ impl Crossing {
                 self.saved = Some((on, text.to_vec()));
             }
             Call::Load => {
-                let crossed = self.saved == Some((!on, script.text.0.clone()));
+                // The save's text in any spelling is that save.
+                let crossed = self.saved == Some((!on, script.text.0.to_ascii_uppercase()));
                 self.loaded = crossed.then(|| (on, script.state.0.clone()));
             }
             Call::Step if self.loaded == Some((on, script.state.0.clone())) => {

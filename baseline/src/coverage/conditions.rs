@@ -4,6 +4,7 @@
 use super::advection;
 use super::friction;
 use super::grids;
+use super::layouts::{line_at, Layout, FORCING};
 use super::names::{lent_to, side, LIMITS, PARAMETER_NAMES, RUN_NAMES};
 use crate::frames::byte_of;
 use crate::generate::values::{Range, COLUMN, DEPTH, ELEVATION, PARAMETERS, RUNS, VELOCITY, WIND};
@@ -307,27 +308,25 @@ fn outcome(script: &Script, place: usize) -> Vec<String> {
     all
 }
 
-/// What is wrong with a line of a due length, by row 20.
-fn line_fault(line: &[u8], due: usize) -> &'static str {
+/// What is wrong with a line of the kind that is due, by row 20.
+fn line_fault(line: &[u8], layout: &Layout) -> &'static str {
+    let due = layout.length();
     let digits = line.split_last().map_or(line, |(_, digits)| digits);
-    let wrong = digits
-        .iter()
-        .find(|byte| !matches!(byte, b'0'..=b'9' | b'A'..=b'F'));
+    let wrong = digits.iter().find(|byte| !byte.is_ascii_hexdigit());
     match wrong {
         _ if line.is_empty() => "missing",
         _ if line.len() < due => "too short",
         _ if line.len() > due => "too long",
         _ if line.last() != Some(&b'\n') => "no line feed",
-        Some(b'a'..=b'f') => "lower case",
         Some(b'\n') => "line feed too early",
         _ => "wrong digit",
     }
 }
 
 /// Row 22: the kind or, where that is right, the sequence.
-fn beginning_fault(line: &[u8], kind: u8) -> &'static str {
+fn beginning_fault(line: &[u8], layout: &Layout) -> &'static str {
     let first = line.first_chunk().and_then(|&pair| byte_of(pair));
-    if first == Some(kind) {
+    if first == Some(layout.kind) {
         "sequence"
     } else {
         "kind"
@@ -340,18 +339,12 @@ fn text_fault(script: &Script, called: Called) -> String {
     if place == n + 2 {
         return String::from("trailing");
     }
-    let (name, kind, due) = match place {
-        0 => ("head", 1, 57),
-        _ if place <= n => ("node", 2, 73),
-        _ => ("end", 3, 13),
-    };
-    let from = if place == 0 { 0 } else { 57 + 73 * (place - 1) };
-    let rest = script.text.0.get(from..).unwrap_or(&[]);
-    let line = &rest[..due.min(rest.len())];
+    let (layout, line) = line_at(&script.text.0, n, place);
+    let name = layout.name;
     match called.answer.number {
-        20 => format!("{name} {}", line_fault(line, due)),
+        20 => format!("{name} {}", line_fault(line, layout)),
         21 => String::from(name),
-        22 => format!("{name} {}", beginning_fault(line, kind)),
+        22 => format!("{name} {}", beginning_fault(line, layout)),
         _ => format!("{name} {}", differing_count(line, n)),
     }
 }
@@ -359,7 +352,7 @@ fn text_fault(script: &Script, called: Called) -> String {
 /// Row 23: N or, where that is right, E.
 fn differing_count(line: &[u8], n: usize) -> &'static str {
     let digits = line.get(6..10).unwrap_or(&[]);
-    if digits == format!("{n:04X}").as_bytes() {
+    if digits.eq_ignore_ascii_case(format!("{n:04X}").as_bytes()) {
         "E"
     } else {
         "N"
@@ -370,10 +363,10 @@ fn differing_count(line: &[u8], n: usize) -> &'static str {
 fn forcing_fault(script: &Script, called: Called) -> String {
     let line = &script.line.0;
     String::from(match called.answer.number {
-        20 => line_fault(line, 57),
+        20 => line_fault(line, &FORCING),
         21 => "check byte",
         _ if called.expected > 65_535 => "expected above 65,535",
-        _ => beginning_fault(line, 0x10),
+        _ => beginning_fault(line, &FORCING),
     })
 }
 

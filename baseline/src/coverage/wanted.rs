@@ -5,6 +5,7 @@ use super::friction;
 use super::grids;
 use super::names::{lent_to, LIMITS, PARAMETER_NAMES, RUN_NAMES, SIDES};
 use super::nans::all_kept;
+use super::spellings;
 use crate::generate::Family;
 use crate::script::Call;
 
@@ -46,6 +47,7 @@ fn runs_and_lines() -> Vec<Reached> {
     all.extend(of(Call::Save, 0, &["room just enough", "room to spare"]));
     all.extend(text_rows());
     all.extend(line_rows());
+    all.extend(spellings::all_conditions());
     all.extend(all_kept(&ON_A_RUN));
     all
 }
@@ -113,11 +115,10 @@ fn step_rows() -> Vec<Reached> {
 
 /// The faults of row 20 that a line of a text and a forcing line both have. A
 /// text's line that is too long has no line feed where it is due.
-const LINE_FAULTS: [&str; 6] = [
+const LINE_FAULTS: [&str; 5] = [
     "missing",
     "too short",
     "no line feed",
-    "lower case",
     "line feed too early",
     "wrong digit",
 ];

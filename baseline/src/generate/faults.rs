@@ -3,9 +3,10 @@
 
 use super::nans;
 use super::pen::Pen;
-use super::runs::make_room;
+use super::runs::{make_room, read_forcing};
 use super::settings::{any_manner, clock, forcing, save_length, set_state, small_size};
 use super::settings::{otherwise, start};
+use super::spellings::respell;
 use super::texts::damage;
 use super::values::{anything, in_size, inside, lowest_elevation, tested, word};
 use super::values::{DEPTH, ELEVATION, PARAMETERS, RUNS, WIND};
@@ -19,6 +20,9 @@ pub(crate) fn faults(pen: &mut Pen) {
     start(pen, nodes, manner);
     make_room(pen, 0);
     pen.call(Call::Save);
+    if pen.dice.one_in(3) {
+        respell(pen);
+    }
     for _ in 0..8 + pen.dice.below(10) {
         let forcing = forcing(pen, manner);
         pen.set_forcing(forcing);
@@ -63,9 +67,9 @@ fn round(pen: &mut Pen) {
 }
 
 /// The rows of faults, as often as they have conditions to reach.
-const ROWS: [u32; 31] = [
+const ROWS: [u32; 35] = [
     1, 1, 1, 1, 2, 2, 3, 4, 4, 4, 5, 6, 6, 7, 7, 20, 24, // whole slices among them
-    8, 8, 9, 9, 10, 10, 10, 10, 10, 11, 12, 12, 12, 12, // single numbers
+    8, 8, 9, 9, 10, 10, 10, 10, 10, 10, 11, 11, 12, 12, 12, 12, 12, 12, // single numbers
 ];
 
 /// Where the faults of single numbers begin.
@@ -349,21 +353,24 @@ fn last_step(pen: &mut Pen) {
 }
 
 /// 12: "held wind beyond 0.1; forcing elevation beyond 30; Wx', Wy' beyond
-/// 0.1".
+/// 0.1". At times the forcing is then read from a line.
 fn winds(pen: &mut Pen) {
     let (mut clock, mut forcing) = (pen.script.clock, pen.script.forcing);
     for _ in 0..1 + pen.dice.below(5) / 4 {
         let dice = &mut pen.dice;
-        match dice.below(5) {
-            0 => clock.wx = tested(dice, WIND),
-            1 => clock.wy = tested(dice, WIND),
-            2 => forcing.elevation = tested(dice, ELEVATION),
-            3 => forcing.wx = tested(dice, WIND),
+        match dice.below(7) {
+            0 | 1 => clock.wx = tested(dice, WIND),
+            2 | 3 => clock.wy = tested(dice, WIND),
+            4 => forcing.elevation = tested(dice, ELEVATION),
+            5 => forcing.wx = tested(dice, WIND),
             _ => forcing.wy = tested(dice, WIND),
         }
     }
     pen.change_clock(clock);
     pen.change_forcing(forcing);
+    if pen.dice.one_in(4) {
+        read_forcing(pen, forcing);
+    }
 }
 
 /// 20 to 23, and 12 and 10 of what is loaded.

@@ -2,14 +2,19 @@
 
 use super::dice::Dice;
 use super::pen::Pen;
+use super::spellings::spelled;
 use super::values::{anything, at_edge, WIND};
 use crate::frames::{byte_of, Line};
 
-/// The kind bytes of the four kinds of lines, and two of none.
-const KINDS: [u8; 6] = [0x01, 0x02, 0x03, 0x10, 0x00, 0xFF];
+/// The kind bytes of the four kinds of lines, and of none.
+const KINDS: [u8; 8] = [0x01, 0x02, 0x03, 0x10, 0x00, 0x1A, 0xC0, 0xFF];
 
-/// Bytes that are no upper-case digit.
-const NO_DIGITS: &[u8] = b"Gg/:@`afxX \0\xFF\r\n\n\n\n";
+/// Bytes that are no digit: most often those next to the digits.
+const NO_DIGITS: &[u8] = b"gG`@/:gG`@/:xX \0\xFF\r\n\n\n\n";
+
+/// The bit that tells a letter's two cases apart: without it `0` to `9` are no
+/// digits.
+const CASE_BIT: u8 = 0x20;
 
 /// A frame's line: its digits, the check byte that makes all "sum to 0 modulo
 /// 256", and the line feed.
@@ -48,17 +53,14 @@ pub(crate) fn damaged(dice: &mut Dice, line: &[u8]) -> Vec<u8> {
     }
 }
 
-/// Row 20: "wrong digit", lower case among them.
+/// Row 20: "wrong digit".
 fn with_wrong_digit(dice: &mut Dice, line: &[u8]) -> Vec<u8> {
     let mut line = line.to_vec();
-    let letters: Vec<usize> = (0..line.len())
-        .filter(|&at| line[at].is_ascii_uppercase())
-        .collect();
-    if letters.is_empty() || dice.one_in(2) {
-        let at = dice.below(line.len().saturating_sub(1));
-        line[at] = dice.one_of(NO_DIGITS);
+    let at = dice.below(line.len().saturating_sub(1));
+    if line[at].is_ascii_digit() && dice.one_in(4) {
+        line[at] ^= CASE_BIT;
     } else {
-        line[dice.one_of(&letters)].make_ascii_lowercase();
+        line[at] = dice.one_of(NO_DIGITS);
     }
     line
 }
@@ -137,11 +139,20 @@ pub(crate) fn reads(pen: &mut Pen) {
         if pen.dice.one_in(2) {
             line = damaged(&mut pen.dice, &line);
         }
-        pen.become_bytes("line", &line);
         let expected = expected(&mut pen.dice, sequence);
-        pen.say(format!("read {expected}"));
-        pen.look("line");
+        // At times the same line is read once more, in another spelling.
+        for _ in 0..pen.dice.one_of(&[1, 1, 2]) {
+            read(pen, &line, expected);
+            pen.look("line");
+        }
     }
+}
+
+/// Reads a line in any spelling.
+pub(crate) fn read(pen: &mut Pen, line: &[u8], expected: u32) {
+    let line = spelled(&mut pen.dice, line);
+    pen.become_bytes("line", &line);
+    pen.say(format!("read {expected}"));
 }
 
 /// Most often the line's own number, else another.

@@ -184,14 +184,19 @@ impl Pen {
         self.say(forcing_line(forcing));
     }
 
-    /// Makes the text or the line these bytes, by as few words as there are
-    /// bytes that differ.
+    /// Makes the text or the line these bytes, the shorter way: by a command for
+    /// each byte that differs, or by all bytes from the first of them on.
     pub fn become_bytes(&mut self, name: &str, bytes: &[u8]) {
         let held = match name {
             "text" => self.script.text.0.clone(),
             _ => self.script.line.0.clone(),
         };
-        if held.len() == bytes.len() {
+        let pairs = || bytes.iter().zip(&held);
+        let same = pairs().take_while(|(new, old)| new == old).count();
+        let differing = pairs().filter(|(new, old)| new != old).count();
+        let command = format!("put {name} {} 00", bytes.len()).len();
+        let by_puts = differing * command <= 3 * (bytes.len() - same);
+        if held.len() == bytes.len() && by_puts {
             for (at, (&new, old)) in bytes.iter().zip(held).enumerate() {
                 if new != old {
                     self.say(format!("put {name} {at} {}", byte_word(new)));
@@ -199,8 +204,6 @@ impl Pen {
             }
             return;
         }
-        let pairs = bytes.iter().zip(&held);
-        let same = pairs.take_while(|(new, old)| new == old).count();
         if same < held.len() {
             self.say(format!("keep {name} {same}"));
         }

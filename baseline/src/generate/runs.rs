@@ -1,11 +1,13 @@
 //! Long runs: open, steps, saves and loads.
 
-use super::lines::{forcing_frame, line_of};
+use super::lines::{forcing_frame, line_of, read};
 use super::pen::{byte_word, Pen};
 use super::settings::{any_manner, any_size, clock, forcing, parameters, save_length};
 use super::settings::{otherwise, start};
+use super::spellings::respell;
 use super::values::{anything, word};
 use super::worlds::{world, Manner};
+use crate::records::Forcing;
 use crate::script::Call;
 
 /// How many steps a run of this size takes.
@@ -82,14 +84,19 @@ fn step_otherwise(pen: &mut Pen) {
 /// Sets a forcing, at times by a line that is read.
 fn force(pen: &mut Pen, manner: Manner) {
     let forcing = forcing(pen, manner);
-    if !pen.dice.one_in(6) {
+    if pen.dice.one_in(6) {
+        read_forcing(pen, forcing);
+    } else {
         pen.set_forcing(forcing);
-        return;
     }
+}
+
+/// Reads a forcing from a line of its own.
+pub(crate) fn read_forcing(pen: &mut Pen, forcing: Forcing) {
     let sequence = pen.dice.bits() as u16;
     let numbers = [forcing.elevation, forcing.wx, forcing.wy];
-    pen.become_bytes("line", &line_of(&forcing_frame(sequence, numbers)));
-    pen.say(format!("read {sequence}"));
+    let line = line_of(&forcing_frame(sequence, numbers));
+    read(pen, &line, u32::from(sequence));
 }
 
 /// Room for a save, with some bytes more than it needs.
@@ -100,7 +107,8 @@ pub(crate) fn make_room(pen: &mut Pen, more: usize) {
 }
 
 /// Saves, loads into this or another slice, at times under the other setting of
-/// advection, and saves again: "loading it returns the same bits".
+/// advection, in another spelling or in two, and saves again: "loading it returns
+/// the same bits", and "one written form".
 pub(crate) fn save_and_load(pen: &mut Pen) {
     let more = pen.dice.one_of(&[0, 1, 17, 73]);
     make_room(pen, more);
@@ -124,7 +132,14 @@ pub(crate) fn save_and_load(pen: &mut Pen) {
     if pen.dice.one_in(4) {
         pen.set_parameters(otherwise(pen.script.p));
     }
+    if pen.dice.one_in(2) {
+        respell(pen);
+    }
     pen.call(Call::Load);
+    if pen.dice.one_in(8) {
+        respell(pen);
+        pen.call(Call::Load);
+    }
     make_room(pen, 0);
     pen.call(Call::Save);
 }

@@ -7,6 +7,7 @@ use super::nans;
 use super::pen::{byte_word, Pen};
 use super::runs::make_room;
 use super::settings::{any_manner, save_length, small_size, start};
+use super::spellings::{respell, spelled};
 use super::values::{lowest_elevation, tested, RUNS, WIND};
 use super::worlds::Manner;
 use crate::script::Call;
@@ -21,6 +22,9 @@ pub(crate) fn texts(pen: &mut Pen) {
     make_room(pen, 0);
     pen.call(Call::Save);
     for _ in 0..5 + pen.dice.below(8) {
+        if pen.dice.one_in(5) {
+            respell(pen);
+        }
         let right = pen.script.text.0.clone();
         damage(pen);
         if pen.dice.one_in(2) {
@@ -66,12 +70,22 @@ fn damaged_text(pen: &mut Pen, text: &[u8]) -> Vec<u8> {
     let at = any_line(&mut pen.dice, lines.len());
     let sound = lines.get(at).is_some_and(|line| frame_of(line).len() >= 5);
     match pen.dice.below(12) {
-        0..3 if sound => lines[at] = damaged(&mut pen.dice, &lines[at]),
-        3..10 if sound => lines[at] = with_other_field(pen, &lines[at]),
+        0..10 if sound => {
+            let line = damaged_line(pen, &lines[at]);
+            lines[at] = spelled(&mut pen.dice, &line);
+        }
         10 => return with_other_end(&mut pen.dice, text),
         _ => rearrange(pen, &mut lines, at),
     }
     lines.concat()
+}
+
+/// A line that rows 20 to 22 refuse, or one with another value.
+fn damaged_line(pen: &mut Pen, line: &[u8]) -> Vec<u8> {
+    match pen.dice.below(10) {
+        0..3 => damaged(&mut pen.dice, line),
+        _ => with_other_field(pen, line),
+    }
 }
 
 /// Any line, the head and the end as often as all the nodes.
@@ -171,12 +185,12 @@ fn rearrange(pen: &mut Pen, lines: &mut Vec<Vec<u8>>, at: usize) {
     }
 }
 
-/// The save of a run on another mesh, written by a pen of its own.
+/// The save of a run on another mesh, written by a pen of its own, in any spelling.
 fn another_text(pen: &mut Pen) -> Vec<u8> {
     let mut other = Pen::new(Dice::of(pen.dice.bits(), 0));
     let nodes = small_size(&mut other);
     start(&mut other, nodes, Manner::Calm);
     make_room(&mut other, 0);
     other.call(Call::Save);
-    other.script.text.0
+    spelled(&mut pen.dice, &other.script.text.0)
 }

@@ -57,6 +57,12 @@ fn whole(word: &[u8]) -> Option<i128> {
     Some(if below_zero { -size } else { size })
 }
 
+/// The byte that two digits stand for, "upper case": those that it is written
+/// as. Either case is for forcing lines and loads, not for the words of a script.
+fn upper_case(pair: [u8; 2]) -> Option<u8> {
+    byte_of(pair).filter(|&byte| two_digits(byte) == pair)
+}
+
 /// "A float is written as the 16 hexadecimal digits of its binary64 pattern,
 /// upper case".
 pub(crate) struct Float;
@@ -71,7 +77,7 @@ impl Form for Float {
         }
         let mut bits = 0;
         for &pair in pairs {
-            bits = (bits << 8) | u64::from(byte_of(pair)?);
+            bits = (bits << 8) | u64::from(upper_case(pair)?);
         }
         Some(f64::from_bits(bits))
     }
@@ -91,7 +97,7 @@ impl Form for Byte {
     type Element = u8;
 
     fn read(word: &[u8]) -> Option<u8> {
-        byte_of(<[u8; 2]>::try_from(word).ok()?)
+        upper_case(<[u8; 2]>::try_from(word).ok()?)
     }
 
     fn write(element: u8, room: &mut Vec<u8>) {

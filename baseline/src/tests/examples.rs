@@ -78,11 +78,21 @@ fn example_8_check_byte_of_the_head() {
     refused(Lent::mesh_t().load(&text).0, 21, 0);
 }
 
+/// "01's example 9 becomes an accepted case": it gives what `FB` gives.
 #[test]
 fn example_9_lower_case() {
     let mut text = cold_save();
+    assert_eq!(&text[54..57], b"FB\n");
     text[54..56].copy_from_slice(b"fb");
-    refused(Lent::mesh_t().load(&text).0, 20, 0);
+    for text in [text, cold_save()] {
+        let mut lent = Lent::mesh_t();
+        lent.state.fill(f64::from_bits(FILL));
+        lent.clock = busy_clock();
+        let (answer, clock) = lent.load(&text);
+        accepted(answer, 0);
+        same_clock(clock, Clock::COLD);
+        assert_eq!(bits(&lent.state), [0; 12]);
+    }
 }
 
 #[test]

@@ -5,14 +5,14 @@ use crate::frames::{Line, FORCING};
 use crate::read_forcing;
 
 /// Expects a refusal with a forcing of three +0.
-fn line_refused(line: &[u8], expected: u32, number: u32) {
+pub fn line_refused(line: &[u8], expected: u32, number: u32) {
     let (answer, forcing) = read_forcing(line, expected);
     refused(answer, number, 0);
     assert_eq!(bits(&[forcing.elevation, forcing.wx, forcing.wy]), [0; 3]);
 }
 
 /// Expects an accepted line and hands back its patterns.
-fn line_accepted(line: &[u8], expected: u32) -> [u64; 3] {
+pub fn line_accepted(line: &[u8], expected: u32) -> [u64; 3] {
     let (answer, forcing) = read_forcing(line, expected);
     accepted(answer, 0);
     [forcing.elevation, forcing.wx, forcing.wy].map(f64::to_bits)
@@ -96,7 +96,7 @@ fn row_20_every_wrong_digit() {
         for byte in 0..=255_u8 {
             let mut line = text.clone();
             line[place] = byte;
-            if byte.is_ascii_digit() || (b'A'..=b'F').contains(&byte) {
+            if byte.is_ascii_hexdigit() {
                 assert_ne!(read_forcing(&line, 0).0.number, 20);
             } else {
                 line_refused(&line, 0, 20);
@@ -140,6 +140,6 @@ fn order_20_21_22() {
     line_refused(&text, 1, 22);
     text[55] = b'1';
     line_refused(&text, 1, 21);
-    text[20] = b'a';
+    text[20] = b'g';
     line_refused(&text, 1, 20);
 }

@@ -3,6 +3,7 @@
 
 use crate::coverage::nans::sort_of;
 use crate::generate::dice::Dice;
+use crate::generate::spellings::spelled;
 use crate::generate::values::{lowest_elevation, nan, COLUMN};
 use crate::generate::worlds::{full_grid, world, Manner, World};
 use crate::generate::{generate, Family};
@@ -52,7 +53,7 @@ fn same_seed_same_text() {
 fn the_scripts_of_seed_1_are_these() {
     for (family, digest) in FAMILIES
         .into_iter()
-        .zip(["E466186E58841EF4", "B2040D74AE0915AF"])
+        .zip(["B980361EDA56B212", "7CEF274D31DB06FF"])
     {
         let mut hash = 0xCBF2_9CE4_8422_2325_u64;
         for byte in (0..100).flat_map(|index| generate(family, 1, index)) {
@@ -86,6 +87,42 @@ fn about_half_of_the_scripts_begin_with_advection_on() {
         }
         let [off, on] = counts;
         assert!(3 * off > 2 * on && 3 * on > 2 * off, "{counts:?}");
+    }
+}
+
+/// How many of some spellings of a text pass a test.
+fn spellings(text: &[u8], test: impl Fn(&[u8]) -> bool) -> usize {
+    let mut dice = Dice::of(7, 0);
+    let all = (0..1_000).map(|_| spelled(&mut dice, text));
+    all.filter(|spelling| {
+        assert!(spelling.eq_ignore_ascii_case(text));
+        test(spelling)
+    })
+    .count()
+}
+
+#[test]
+fn most_spellings_are_of_both_cases() {
+    let text = b"02000AABCDEFABCDEFABCDEF\n0300040003F6\n";
+    let lower = |spelling: &[u8]| spelling.iter().filter(|b| b.is_ascii_lowercase()).count();
+    let all = lower(&text.to_ascii_lowercase());
+    for (count, least) in [(0, 80), (all, 80), (1, 20), (all - 1, 20)] {
+        assert!(spellings(text, |spelling| lower(spelling) == count) > least);
+    }
+    let mixed = spellings(text, |spelling| (2..all - 1).contains(&lower(spelling)));
+    assert!(mixed > 600);
+    for (spelling, least) in [
+        (&b"02000AABCDEFABCDEFABCDef\n0300040003f6\n"[..], 20),
+        (b"02000aabcdefabcdefabcdEF\n0300040003F6\n", 20),
+    ] {
+        assert!(spellings(text, |other| other == spelling) > least);
+    }
+}
+
+#[test]
+fn what_is_no_digit_is_spelled_as_it_was() {
+    for text in [&b"gGhHzZ`@/:[{\n\r \0\xFF"[..], b"", b"0123456789"] {
+        assert_eq!(spellings(text, |spelling| spelling == text), 1_000);
     }
 }
 

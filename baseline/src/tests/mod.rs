@@ -8,6 +8,7 @@ mod mesh;
 mod printing;
 mod saves;
 mod script;
+mod spellings;
 mod step;
 
 use crate::printing::{H, KIND, P, TRI, X, Y};

@@ -112,7 +112,7 @@ fn sequence_numbers_end_at_65_535() {
         assert_eq!(printed(&input), "refused 22 at 65536\n");
         input[65_536][55] ^= 1;
         assert_eq!(printed(&input), "refused 21 at 65536\n");
-        input[65_536][55] = b'f';
+        input[65_536][55] = b'g';
         assert_eq!(printed(&input), "refused 20 at 65536\n");
         input.pop();
     }
@@ -136,6 +136,37 @@ fn cases_are_named_after_their_rows() {
             }
             _ if case.name.starts_with("order") => assert!(text.starts_with("refused")),
             _ => assert_eq!(text.len(), 289, "{}", case.name),
+        }
+    }
+}
+
+/// The cases of request #104 print byte for byte what they print in upper case:
+/// the save of an accepted log, or the refusal.
+#[test]
+fn cases_in_any_case_print_what_upper_case_prints() {
+    let mut counts = [0; 2];
+    let mut cases = crate::cases();
+    cases.retain(|case| case.name.contains("_case"));
+    for case in cases {
+        let (text, mut upper) = (print(&case.input), case.input);
+        assert!(upper.iter().any(u8::is_ascii_lowercase), "{}", case.name);
+        upper.make_ascii_uppercase();
+        assert_eq!(text, print(&upper), "{}", case.name);
+        assert!(!text.starts_with(b"0") || !text.iter().any(u8::is_ascii_lowercase));
+        counts[usize::from(text.starts_with(b"refused "))] += 1;
+    }
+    assert_eq!(counts, [9, 16]);
+}
+
+#[test]
+fn a_log_in_lower_case_has_every_letter_in_every_field() {
+    let cases = crate::cases();
+    let case = cases.iter().find(|case| case.name == "lower_case_log");
+    let input = &case.unwrap().input;
+    for letter in b'a'..=b'f' {
+        for (first, end) in [(2, 6), (6, 22), (22, 38), (38, 54), (54, 56)] {
+            let mut lines = input.chunks(57);
+            assert!(lines.any(|line| line[first..end].contains(&letter)));
         }
     }
 }

@@ -4,7 +4,7 @@ use super::examples::cold_save;
 use super::*;
 
 /// T in mid-run, with -0, subnormals and limits in the state.
-fn busy_t() -> Lent {
+pub fn busy_t() -> Lent {
     let mut lent = Lent::mesh_t();
     let tiny = f64::from_bits(1);
     lent.state = vec![
@@ -22,24 +22,24 @@ fn busy_t() -> Lent {
 }
 
 /// The save of a run that is accepted.
-fn text_of(lent: &Lent) -> Vec<u8> {
+pub fn text_of(lent: &Lent) -> Vec<u8> {
     let mut text = vec![0; 70 + 73 * lent.x.len()];
     accepted(lent.save(&mut text), text.len());
     text
 }
 
 /// The beginnings of the lines of a save at N = 3, and its length.
-const LINES: [usize; 6] = [0, 57, 130, 203, 276, 289];
+pub const LINES: [usize; 6] = [0, 57, 130, 203, 276, 289];
 
 /// A save at N = 3 with one line replaced.
-fn with_line(number: usize, line: &[u8]) -> Vec<u8> {
+pub fn with_line(number: usize, line: &[u8]) -> Vec<u8> {
     let text = text_of(&busy_t());
     let (before, after) = (&text[..LINES[number]], &text[LINES[number + 1]..]);
     [before, line, after].concat()
 }
 
 /// The frame bytes of a line of the save, without the check byte.
-fn frame_of(number: usize) -> Vec<u8> {
+pub fn frame_of(number: usize) -> Vec<u8> {
     let text = text_of(&busy_t());
     let line = &text[LINES[number]..LINES[number + 1] - 3];
     let digits = std::str::from_utf8(line).unwrap();
@@ -48,7 +48,7 @@ fn frame_of(number: usize) -> Vec<u8> {
 }
 
 /// Loads on T, and expects this refusal with state and clock as found.
-fn load_refused(text: &[u8], number: u32, place: usize) {
+pub fn load_refused(text: &[u8], number: u32, place: usize) {
     let mut lent = Lent::mesh_t();
     lent.state.fill(f64::from_bits(FILL));
     lent.clock = busy_clock();
@@ -223,7 +223,7 @@ fn load_row_20_wrong_digit_or_line_feed() {
     let text = text_of(&busy_t());
     for place in 0..289 {
         let number = LINES.iter().filter(|&&begin| begin <= place).count() - 1;
-        for byte in [b'g', b'G', b'a', b' ', b'/', b':', b'@', 0, 255] {
+        for byte in [b'g', b'G', b'`', b' ', b'/', b':', b'@', 0, 255] {
             let mut spoiled = text.clone();
             spoiled[place] = byte;
             load_refused(&spoiled, 20, number);
@@ -288,7 +288,7 @@ fn load_goes_line_by_line() {
     let mut text = text_of(&busy_t());
     text.push(b'\n');
     load_refused(&text, 20, 5);
-    text[276] = b'a';
+    text[276] = b'g';
     load_refused(&text, 20, 4);
     text[58] = if text[58] == b'0' { b'1' } else { b'0' };
     load_refused(&text, 21, 1);

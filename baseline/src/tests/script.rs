@@ -485,6 +485,8 @@ fn floats_and_bytes_that_are_none() {
         "0",
         "1.0",
         "3ff0000000000000",
+        "3Ff0000000000000",
+        "3FF000000000000f",
         "3FF000000000000",
         "3FF00000000000000",
         "3FF000000000000G",
@@ -499,7 +501,9 @@ fn floats_and_bytes_that_are_none() {
         bad(&format!("clock 0 {ZERO} {word}"));
         bad(&format!("parameters {ZERO} {ZERO} {ZERO} {word} 0"));
     }
-    for word in ["", "0", "a0", "0g", "000", "G0", "-1", "255"] {
+    for word in [
+        "", "0", "a0", "0f", "Ff", "ff", "0g", "000", "G0", "-1", "255",
+    ] {
         bad(&format!("set text {word}"));
         bad(&format!("put line 0 {word}"));
     }

@@ -5,13 +5,14 @@ use mathlib.Core.Bool.{Bool, true, _&&_, cond}
 use lib.ListN.{length}
 use lib.Dec.{leb, ltb}
 
--- "Upper-case hexadecimal": 0 to 9 are the characters 48 to 57, A to F the characters 65 to 70
+-- "Upper-case hexadecimal": 0 to 9 are the characters 48 to 57, A to F the characters 65 to 70. Document 02, #104: "We still write upper case."
 unfoldable pub digit : ℕ → ℕ
 digit n = cond (ltb n 10) (48 + n) (55 + n)
 
--- what a character is worth as a digit, and 16 where it is no digit
+-- Document 02, #104: "A digit now means the same in either case": what a character is worth as a digit, a to f, the characters 97 to 102, as A to F; and
+-- 16 where it is no digit
 unfoldable pub worth : ℕ → ℕ
-worth d = cond (leb 48 d && leb d 57) (d - 48) (cond (leb 65 d && leb d 70) (d - 55) 16)
+worth d = cond (leb 48 d && leb d 57) (d - 48) (cond (leb 65 d && leb d 70) (d - 55) (cond (leb 97 d && leb d 102) (d - 87) 16))
 
 abbrev pub isDigit : ℕ → Bool
 isDigit d = ltb (worth d) 16

@@ -1,4 +1,4 @@
-// Upper-case hexadecimal, two digits for each byte.
+// Hexadecimal in either case, two digits for each byte.
 ghost use mathlib.Core.Path.{_≡_};
 ghost use Prim.Native.Nat.{_+_, _*_, _<_, _≤_};
 ghost use lib.ListN.{length, take, getD};
@@ -6,11 +6,13 @@ ghost use Rattle.frames.specs.Bytes.{worth, bytes};
 ghost use Rattle.frames.specs.Private.{areDigits};
 ghost use Rattle.frames.specs.Reading.{tallied};
 
-// What a digit is worth, and 16 where it is no digit: the one place that knows what a digit is. It has no early exit, so that the loops over it are vectorised.
+// What a digit is worth, and 16 where it is no digit: the one place that knows what a digit is. It has no early exit, so that the compiler vectorises the
+// loops over it.
 fn worth(d: u8) -> u8
     ensures { λ r. ⌜ r ≡ worth d ⌝ }
 {
-    let letter = if (65 <= d) & (d <= 70) { d - 55 } else { 16 };
+    let lower = if (97 <= d) & (d <= 102) { d - 87 } else { 16 };
+    let letter = if (65 <= d) & (d <= 70) { d - 55 } else { lower };
     if (48 <= d) & (d <= 57) {
         d - 48
     } else {

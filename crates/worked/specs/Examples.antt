@@ -4,7 +4,7 @@ use mathlib.Core.Path.{_≡_}
 use mathlib.Core.Bool.{false}
 use mathlib.Core.List.{List, [], _∷_, _++_, map}
 use lib.IntN.{ℤ, pos, negsuc}
-use lib.ListN.{length, replicate}
+use lib.ListN.{length, drop, replicate}
 use Rattle.rows.specs.declared.Answer.{Answer}
 use Rattle.lists.specs.Table.{table, zeros}
 use Rattle.rows.specs.Numbers.{plus0, decimal}
@@ -107,8 +107,10 @@ examples =
     -- 8. "head above sums to 0; with FA it is 21."
     ∷ example (count (sum (bytes (headWith 70 66)) % 256)) (count 0)
     ∷ example (loading (headWith 70 65)) (answer (refused 21 0))
-    -- 9. "lower-case `fb`: 20."
-    ∷ example (loading (headWith 102 98)) (answer (refused 20 0))
+    -- 9. "lower-case `fb`: 20." Document 02, #104: "01's example 9 becomes an accepted case." With `fa` it is 21, as 8, and with `fg` 20
+    ∷ example (loading (headWith 102 98 ++ drop 57 (saveText 3 1 (coldState 3) coldClock))) (answer accepted)
+    ∷ example (loading (headWith 102 97)) (answer (refused 21 0))
+    ∷ example (loading (headWith 102 103)) (answer (refused 20 0))
     -- 10. "end line with sequence 5 and check F5: 22."
     ∷ example (loading (linesTo 3 1 (coldState 3) coldClock 4 ++ endWith 53 53)) (answer (refused 22 4))
     -- with sequence 4 and check F6 it is accepted
