@@ -3,4 +3,5 @@ pub mod Demand2Proof
 pub mod FrictionProof
 pub mod AdvectionProof
 pub mod RoundTripProof
+pub mod SpellingsProof
 pub mod Demand3Proof

@@ -4,4 +4,5 @@ pub mod Demand2
 pub mod Friction
 pub mod Advection
 pub mod RoundTrip
+pub mod Spellings
 pub mod Demand3

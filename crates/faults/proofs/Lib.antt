@@ -1,1 +1,2 @@
 pub mod FaultLaws
+pub mod SpellingLaws

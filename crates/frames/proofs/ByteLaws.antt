@@ -16,10 +16,14 @@ use Rattle.rows.proofs.ScanLaws.{row-passed, scan-clean}
 use Rattle.frames.specs.Bytes.{digit, worth, isDigit, digits, byte, bytes, allDigits, field, number, sum}
 use Rattle.frames.specs.Private.{areDigits}
 
--- ---- a digit is worth what it was written for: each of the sixteen
+-- ---- a test that holds of each number below n, by computation
+pub each-below : (test : ℕ → Bool) (n : ℕ) → scan (λ (k : ℕ). row (test k) 1 0) n .number ≡ 0 → (d : ℕ) → d < n → test d ≡ true
+each-below test n all d h = row-passed _ 0 0 (scan-clean (λ (k : ℕ). row (test k) 1 0) n all d h)
+
+-- a digit is worth what it was written for: each of the sixteen
 worth-digit : (n : ℕ) → n < 16 → worth (digit n) ≡ n
 unfolding worth digit scan _then_ row
-worth-digit n h = eqb-true _ _ (row-passed _ 0 0 (scan-clean (λ (k : ℕ). row (eqb (worth (digit k)) k) 1 0) 16 refl n h))
+worth-digit n h = eqb-true _ _ (each-below (λ (k : ℕ). eqb (worth (digit k)) k) 16 refl n h)
 
 digit-right : (n : ℕ) → n < 16 → isDigit (digit n) ≡ true
 digit-right n h = rw (worth-digit n h) (lt-ltb n 16 h)

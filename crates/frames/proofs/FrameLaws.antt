@@ -12,7 +12,7 @@ use Rattle.frames.specs.Private.{widthsOf}
 use Rattle.frames.proofs.ByteLaws.{Bytes, bytes-join, field-bytes, bytes-back, digits-length, field-length, sum-join}
 
 -- ---- the bytes of fields
-one-more : (f : Field) (fs : List Field) → length (fieldBytes (f ∷ fs)) ≡ f .width + length (fieldBytes fs)
+pub one-more : (f : Field) (fs : List Field) → length (fieldBytes (f ∷ fs)) ≡ f .width + length (fieldBytes fs)
 unfolding fieldBytes
 one-more f fs = length-append (field (f .width) (f .value)) (fieldBytes fs) ∙ rw (field-length (f .width) (f .value))
 

@@ -1,4 +1,6 @@
 pub mod ByteLaws
 pub mod FrameLaws
 pub mod BackLaws
+pub mod SpellingLaws
+pub mod WrittenLaws
 mod Worked

@@ -1,4 +1,5 @@
 pub mod Bytes
 pub mod Frames
+pub mod Spelling
 pub mod Reading
 pub mod Private

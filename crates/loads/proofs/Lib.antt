@@ -3,3 +3,5 @@ pub mod LoadLaws
 pub mod StorableLaws
 pub mod BackLaws
 pub mod OwnLaws
+pub mod SpellingLaws
+pub mod WrittenLaws

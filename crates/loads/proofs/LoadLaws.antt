@@ -84,7 +84,7 @@ module _ (m : Mesh) (p : Parameters) (t : List ℕ) (state : List Float) where
     unfolding loadAnswer
     loaded-wind = then-first _ _ (then-rest _ _ (then-rest _ _ (then-rest _ _ ok)))
 
-    node-read : (i : ℕ) → i < N m → inBounds (loadedNode (N m) (m .h) t i) ≡ true
+    pub node-read : (i : ℕ) → i < N m → inBounds (loadedNode (N m) (m .h) t i) ≡ true
     unfolding loadAnswer
     node-read i l = row-passed _ 9 i (scan-clean _ _ (then-rest _ _ (then-rest _ _ (then-rest _ _ (then-rest _ _ ok)))) i l)
 

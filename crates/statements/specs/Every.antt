@@ -6,6 +6,7 @@ use Rattle.demands.specs.Demand2.{Demand2, FloatsWithoutLoss}
 use Rattle.demands.specs.Friction.{SameAtZeroFriction}
 use Rattle.demands.specs.Advection.{OffGivesEarlier}
 use Rattle.demands.specs.RoundTrip.{SavedIsLoaded, SameTextSameRun, LoadedIsSaved}
+use Rattle.demands.specs.Spellings.{EitherCase, ManySpellingsOneForm}
 use Rattle.demands.specs.Demand3.{Demand3AtSurge, AnySaveAtSurge, OpensCold, OwnSavesLoad, HeldRunsSave}
 use Rattle.worked.specs.Computed.{ComputedHolds, LatestHolds}
 use Rattle.worked.specs.Examples.{ExamplesHold}
@@ -24,6 +25,8 @@ pub record EveryStatement : Type 0 where
   pub saved-is-loaded : SavedIsLoaded
   pub same-text-same-run : SameTextSameRun
   pub loaded-is-saved : LoadedIsSaved
+  pub either-case : EitherCase
+  pub many-spellings-one-form : ManySpellingsOneForm
   pub demand3 : Demand3AtSurge
   pub any-save : AnySaveAtSurge
   pub opens-cold : OpensCold

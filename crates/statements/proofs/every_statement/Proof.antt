@@ -8,6 +8,7 @@ use Rattle.demands.proofs.Demand2Proof.{demand2, floats-without-loss}
 use Rattle.demands.proofs.FrictionProof.{same-at-zero-friction}
 use Rattle.demands.proofs.AdvectionProof.{off-gives-earlier}
 use Rattle.demands.proofs.RoundTripProof.{saved-is-loaded, same-text-same-run, loaded-is-saved}
+use Rattle.demands.proofs.SpellingsProof.{either-case, many-spellings-one-form}
 use Rattle.demands.proofs.Demand3Proof.{demand3-at-surge, any-save-at-surge, opens-cold, own-saves-load, held-runs-save}
 use Rattle.worked.proofs.ComputedProof.{computed-holds}
 use Rattle.worked.proofs.LatestProof.{latest-holds}
@@ -28,6 +29,8 @@ every-statement = record {
   saved-is-loaded = saved-is-loaded;
   same-text-same-run = same-text-same-run;
   loaded-is-saved = loaded-is-saved;
+  either-case = either-case;
+  many-spellings-one-form = many-spellings-one-form;
   demand3 = demand3-at-surge;
   any-save = any-save-at-surge;
   opens-cold = opens-cold;
