@@ -4,7 +4,7 @@
 use crate::product::Product;
 use crate::run::{Answer, Clock, Forcing, Mesh, Program, Rooms};
 use crate::tested::Tested;
-use crate::world::World;
+use crate::world::{respell, World};
 
 /// All that goes into the four calls.
 #[derive(Clone)]
@@ -64,9 +64,12 @@ fn mend(text: &mut [u8], from: usize) {
 
 type Fault = (u32, fn(&mut Given));
 
-/// No fault, and then one for each row, some twice; the row is the one that it must bring out in at least one call.
+/// No fault, the text in two other spellings, and then a fault for each row, some twice; the row is the one that it must bring out in at least one call, 0
+/// in all.
 const FAULTS: &[Fault] = &[
     (0, |_| {}),
+    (0, |g| g.text.make_ascii_lowercase()),
+    (0, |g| respell(&mut g.text)),
     (1, |g| g.work += 1),
     // the room that was asked before #103
     (1, |g| g.work = 3 * 20),
@@ -93,7 +96,10 @@ const FAULTS: &[Fault] = &[
     (13, |g| g.forcing.elevation = -29.0),
     (13, |g| g.state[20 + 7] = 29.0),
     (13, |g| g.state[40 + 8] = 19.9999),
-    (20, |g| g.text[30] = b'a'),
+    (20, |g| g.text[30] = b'g'),
+    (20, |g| g.text[30] = b'`'),
+    (20, |g| g.text[57 + 30] = b'G'),
+    (21, |g| g.text[30] = b'a'),
     (20, |g| g.text[57 + 72] = b' '),
     (20, |g| g.text.truncate(200)),
     (20, |g| g.text.push(b'\n')),
@@ -125,13 +131,14 @@ pub fn refusals() -> usize {
         given.world.p.advection = true;
         alike(at, row, &given);
     }
-    FAULTS.len() - 1
+    FAULTS.iter().filter(|fault| fault.0 != 0).count()
 }
 
 fn alike(at: usize, row: u32, given: &Given) {
     let advection = given.world.p.advection;
     let (numbers, product) = outcomes(&Product, given);
-    assert!(numbers.contains(&row), "fault {at}, advection {advection}: the product answers {numbers:?}, not {row}");
+    let others = numbers.iter().any(|&number| number != row);
+    assert!(numbers.contains(&row) && !(row == 0 && others), "fault {at}, advection {advection}: the product answers {numbers:?}, not {row}");
     for forms_as_set in [false, true] {
         let (tested, traces) = outcomes(&Tested { forms_as_set }, given);
         assert!(product == traces, "fault {at}, row {row}, advection {advection}: product {numbers:?}, tested {tested:?}");

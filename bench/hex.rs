@@ -1,4 +1,4 @@
-//! Frames as upper-case hexadecimal, for the two plain programs. Lengths are known when it is compiled and no digit is branched on, so that the compiler
+//! Frames as hexadecimal, read in either case and written in upper case, for the two plain programs. Lengths are known when it is compiled and no digit is branched on, so that the compiler
 //! turns whole lines at a time.
 
 /// The frame bytes of a head, a node and an end line, and the bytes of their lines.
@@ -20,11 +20,12 @@ pub fn worth(d: u8) -> u8 {
     match d {
         b'0'..=b'9' => d - b'0',
         b'A'..=b'F' => d - (b'A' - 10),
+        b'a'..=b'f' => d - (b'a' - 10),
         _ => 0x80,
     }
 }
 
-/// What a digit is worth, where it is known to be one.
+/// What a digit of either case is worth, where it is known to be one.
 #[inline(always)]
 pub fn worth_of_digit(d: u8) -> u8 {
     (d & 15) + 9 * (d >> 6)

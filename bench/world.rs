@@ -10,6 +10,8 @@ const JITTER: i32 = 200;
 /// Numbers that look thrown (xorshift), the same in every run.
 struct Dice(u64);
 
+const SEED: u64 = 0x9E37_79B9_7F4A_7C15;
+
 impl Dice {
     fn below(&mut self, bound: u64) -> u64 {
         self.0 ^= self.0 << 13;
@@ -32,7 +34,7 @@ pub struct World {
 impl World {
     /// A grid of so many nodes across and along, advection off.
     pub fn grid(across: usize, along: usize) -> World {
-        let mut dice = Dice(0x9E37_79B9_7F4A_7C15);
+        let mut dice = Dice(SEED);
         let mut moved = |i: usize| i as i32 * SPACING + dice.below(2 * JITTER as u64 + 1) as i32 - JITTER;
         let (mut x, mut y) = (Vec::new(), Vec::new());
         for node in 0..across * along {
@@ -107,4 +109,14 @@ pub fn forcings(count: usize) -> Vec<Forcing> {
         Forcing { elevation: 0.8 * angle.sin(), wx: 0.002 * angle.cos(), wy: 0.001 * (2.0 * angle).sin() }
     };
     (0..count).map(forcing).collect()
+}
+
+/// A text with its letters in either case, at random, as another program may write it.
+pub fn respell(text: &mut [u8]) {
+    let mut dice = Dice(SEED);
+    for letter in text.iter_mut().filter(|byte| byte.is_ascii_alphabetic()) {
+        if dice.below(2) == 0 {
+            letter.make_ascii_lowercase();
+        }
+    }
 }
