@@ -29,7 +29,8 @@ use Rattle.passes.specs.Row13.{riseRows, flowRowsBy, row13By, row13}
 use Rattle.passes.specs.Settle.{Rooms, row1Rooms}
 use Rattle.surge.specs.Lent.{Run, run, advanced}
 use Rattle.surge.specs.Step.{givenOf, advance, stepRows, stepsTo, stepOf}
-use Rattle.surge.proofs.NextLaws.{rise-passed, column-passed}
+use Rattle.surge.proofs.NextLaws.{rise-passed}
+use Rattle.limits.proofs.BoundLaws.{each-bounded}
 use Rattle.demands.specs.Friction.{earlierM, earlierFlow, earlierStep, SameAtZeroFriction}
 
 -- ---- of a node
@@ -61,7 +62,7 @@ module _ (m : Mesh) (p : Parameters) (s : Run) (f : Forcing) (rooms : Rooms) (k 
     same-flow i l =
         let dt = dt-finite _ (dt-in _ _ _ _ p (mesh-parts _ m p (ran .mesh) .1)) in
         ap (λ (x : Float). ofKind (kindOf g i) (flowBy p (pushAt g i) (g .less) x))
-        (same-m p (pushAt g i) dt k (column-passed _ (ran .bounds i l)) (rise-passed g rises i l .1))
+        (same-m p (pushAt g i) dt k (each-bounded _ (ran .bounds i l) .column) (rise-passed g rises i l .1))
 
     same-next : nextBy g (earlierFlow g) ≡ nextState g
     unfolding nextState

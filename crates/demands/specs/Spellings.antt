@@ -43,11 +43,12 @@ pub record SaveWrites (t : List ℕ) : Type 0 where
   pub accepts : Accepts (saveOf mesh parameters state clock room .answer)
   pub text : written (saveOf mesh parameters state clock room) ≡ t
 
--- Of all texts that load to a run's bits, w is the one that a save writes; and they are its spellings.
+-- Of all texts that load to a run's bits w is the one that a save writes.
 pub record OnlyForm (m : Mesh) (p : Parameters) (state : List Float) (k : Clock) (w : List ℕ) : Type 0 where
   pub is-written : SaveWrites w
   pub is-loaded : LoadsTo m p state k w
   pub no-other : (t : List ℕ) → SaveWrites t → LoadsTo m p state k t → t ≡ w
+  -- The texts that load to the run's bits are the spellings of w: each of them does, and no other text.
   pub every-spelling : (t : List ℕ) → Spells t w → LoadsTo m p state k t
   pub no-other-spelling : (t : List ℕ) → LoadsTo m p state k t → Spells t w
 

@@ -1,9 +1,9 @@
 -- The outcomes of a load: refused, and loaded; and what an accepted load leaves passes rows 10 and 12.
-use Prim.Native.Nat.{ℕ, _*_, _<_}
+use Prim.Native.Nat.{ℕ, _+_, _*_, _<_, _≤_}
 use mathlib.Core.Path.{_≡_, refl, ap}
 use mathlib.Core.Bool.{Bool, true, false}
 use mathlib.Core.List.{List}
-use borrow.Author.Tests.{eqb-true, eqb-false, eq-eqb, ne-eqb}
+use borrow.Author.Tests.{leb-true, eqb-true, eqb-false, eq-eqb, ne-eqb}
 use lib.Dec.{eqb}
 use lib.ListN.{length}
 use lib.Ieee.{Float}
@@ -11,7 +11,7 @@ use Rattle.rows.specs.declared.Answer.{Answer}
 use Rattle.rows.proofs.ScanLaws.{row-passed, then-first, then-rest, scan-clean, same-number, other-number}
 use Rattle.quantities.specs.declared.Parameters.{Parameters}
 use Rattle.surge.specs.declared.Clock.{Clock}
-use Rattle.mesh.specs.Lent.{Mesh, N}
+use Rattle.mesh.specs.Lent.{Mesh, N, E}
 use Rattle.surge.specs.Lent.{After, after, windOf}
 use Rattle.nodes.specs.Rows.{meshRows}
 use Rattle.limits.specs.Limits.{inBounds, row12Held}
@@ -22,7 +22,8 @@ use Rattle.mesh.proofs.ShapedLaws.{shaped-asked}
 use Rattle.nodes.proofs.PartLaws.{mesh-parts, mesh-asked}
 use Rattle.bounds.proofs.StateLaws.{long-state, in-bounds}
 use Rattle.surge.proofs.NextLaws.{four-runs}
-use Rattle.loads.specs.Load.{clockOf, loadedNode, loadAnswer, loadedState, loadOf}
+use Rattle.saves.specs.Lines.{saveLength}
+use Rattle.loads.specs.Load.{lineRows, clockOf, loadedNode, loadAnswer, loadedState, loadOf}
 
 module _ (m : Mesh) (p : Parameters) (t : List ℕ) (state : List Float) where
   -- the text's state and clock
@@ -78,6 +79,15 @@ module _ (m : Mesh) (p : Parameters) (t : List ℕ) (state : List Float) where
     pub load-mesh : meshRows accepted m p .number ≡ 0
     unfolding loadAnswer
     load-mesh = mesh-asked _ m p (then-first _ _ ok)
+
+    -- rows 20 to 23 of each line, and no bytes after the last
+    pub line-read : (j : ℕ) → j < N m + 2 → lineRows (N m) (E m) t j .number ≡ 0
+    unfolding loadAnswer
+    line-read j l = scan-clean _ _ (then-first _ _ (then-rest _ _ ok)) j l
+
+    pub no-longer : length t ≤ saveLength (N m)
+    unfolding loadAnswer
+    no-longer = leb-true _ _ (row-passed _ 19 (N m + 2) (then-first _ _ (then-rest _ _ (then-rest _ _ ok))))
 
     -- row 12 for the head's wind
     pub loaded-wind : row12Held (windOf (clockOf (N m) t)) .number ≡ 0

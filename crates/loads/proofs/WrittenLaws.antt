@@ -4,14 +4,14 @@ use mathlib.Core.Path.{_≡_, refl, sym, ap, subst, _∙_}
 use mathlib.Core.Bool.{Bool, true, false, cond, not, _&&_, _||_}
 use mathlib.Core.List.{List, [], _∷_, _++_}
 use native.Mathlib.Omega.{arith}
-use borrow.Author.Tests.{ltb-true, ltb-false, leb-true, eqb-true}
+use borrow.Author.Tests.{ltb-true, ltb-false, eqb-true}
 use lib.Dec.{T, ltb, eqb}
-use lib.ListN.{length, take, length-map}
+use lib.ListN.{take, length-map}
 use lib.Seq.{take-add, take-all}
 use lib.Ieee.{Float, nan, inf, fin, le, lt, eq, isNan}
-use Rattle.rows.specs.Numbers.{within, inSize}
+use Rattle.rows.specs.Numbers.{within}
 use Rattle.rows.specs.Scan.{row}
-use Rattle.rows.proofs.ScanLaws.{row-passed, then-first, then-rest, scan-clean, both-left, both-right}
+use Rattle.rows.proofs.ScanLaws.{row-passed, then-first, then-rest, both-left, both-right}
 use Rattle.patterns.proofs.PatternLaws.{pattern-back}
 use Rattle.frames.specs.Frames.{text, digitsOf, bits}
 use Rattle.frames.specs.Reading.{value, float}
@@ -24,41 +24,26 @@ use Rattle.quantities.specs.declared.Node.{Node}
 use Rattle.surge.specs.declared.Clock.{Clock}
 use Rattle.surge.proofs.NextLaws.{four-runs}
 use Rattle.mesh.specs.Lent.{Mesh, N, E}
-use Rattle.limits.specs.Limits.{calm, inBounds, row12Held}
-use Rattle.quantities.specs.Operations.{_⊕_}
-use Rattle.quantities.specs.Constants.{tenth}
+use Rattle.limits.specs.Limits.{calm, row12Held}
+use Rattle.limits.proofs.BoundLaws.{each-bounded}
 use Rattle.bounds.specs.State.{nodeOf}
-use Rattle.saves.specs.Lines.{head, nodeLine, stateValues, end, nodeLayout, endLayout, due, startOf, saveLength}
+use Rattle.saves.specs.Lines.{head, nodeLine, stateValues, end, nodeLayout, endLayout, due, startOf}
 use Rattle.saves.specs.Save.{lineOf, linesTo, saveText}
 use Rattle.saves.proofs.LineLaws.{save-long}
 use Rattle.loads.specs.Load.{lineAt, row23, lineRows, clockOf, loadedNode, loadAnswer, loadedState}
-use Rattle.loads.proofs.LoadLaws.{loaded-wind, node-read}
+use Rattle.loads.proofs.LoadLaws.{line-read, no-longer, loaded-wind, node-read}
 use Rattle.loads.proofs.SpellingLaws.{line-at-upper}
 
 -- ---- a float that is read in a range is of the pattern that it was read from: a NaN is in no range
-number : (low v high : Float) → within low v high ≡ true → T (not (isNan v))
+no-nan : (low v high : Float) → within low v high ≡ true → T (not (isNan v))
 unfolding within le lt eq isNan
-number low nan high h = subst T (sym (both-right (le low nan) (le nan high) h)) tt
-number low (inf s) high h = tt
-number low (fin s m e) high h = tt
+no-nan low nan high h = subst T (sym (both-right (le low nan) (le nan high) h)) tt
+no-nan low (inf s) high h = tt
+no-nan low (fin s m e) high h = tt
 
 module _ (line : List ℕ) (at : ℕ) where
   pattern : (low high : Float) → within low (float line at) high ≡ true → value line at 8 ≡ bits (float line at)
-  pattern low high h = sym (pattern-back (value line at 8) (value-small line at 8) (number low (float line at) high h))
-
--- the ranges of a node's numbers
-in-sizes : (c : Node) → inBounds c ≡ true → (inSize 30 (c .earlier) ≡ true) × (inSize 30 (c .z) ≡ true) × (inSize 20 (c .u) ≡ true) × (inSize 20 (c .v) ≡ true)
-unfolding inBounds
-in-sizes c h =
-    let a = inSize 30 (c .earlier) in
-    let b = inSize 30 (c .z) in
-    let deep = le tenth (c .h ⊕ c .z) in
-    let u = inSize 20 (c .u) in
-    let v = inSize 20 (c .v) in
-    let four = both-left (a && b && deep && u) v h in
-    let three = both-left (a && b && deep) u four in
-    let two = both-left (a && b) deep three in
-    (both-left a b two, both-right a b two, both-right (a && b && deep) u four, both-right (a && b && deep && u) v h)
+  pattern low high h = sym (pattern-back (value line at 8) (value-small line at 8) (no-nan low (float line at) high h))
 
 module _ (m : Mesh) (p : Parameters) (t : List ℕ) (state : List Float) (ok : loadAnswer m p t state .number ≡ 0) where
   -- the run that was loaded
@@ -71,20 +56,12 @@ module _ (m : Mesh) (p : Parameters) (t : List ℕ) (state : List Float) (ok : l
   abbrev new : List Float
   new = loadedState n (m .h) t
 
-  line-passed : (j : ℕ) → j < n + 2 → lineRows n (E m) t j .number ≡ 0
-  unfolding loadAnswer
-  line-passed j l = scan-clean _ _ (then-first _ _ (then-rest _ _ ok)) j l
-
-  no-longer : length t ≤ saveLength n
-  unfolding loadAnswer
-  no-longer = leb-true _ _ (row-passed _ 19 (n + 2) (then-first _ _ (then-rest _ _ (then-rest _ _ ok))))
-
   -- ---- each line is the one that a save of that run has there
   head-written : inUpper (lineAt n t 0) ≡ text (head n (E m) k)
   unfolding lineRows row23 clockOf row12Held
   head-written =
       let l = lineAt n t 0 in
-      let rows = line-passed 0 (omega arith) in
+      let rows = line-read m p t state ok 0 (omega arith) in
       let its-n = eqb (value l 3 2) n in
       let its-e = eqb (value l 5 2) (E m) in
       let counts = row-passed (its-n && its-e) 22 0 (then-rest _ _ rows) in
@@ -107,15 +84,15 @@ module _ (m : Mesh) (p : Parameters) (t : List ℕ) (state : List Float) (ok : l
   node-written i b fine =
       let l = lineAt n t (suc i) in
       let c = loadedNode n (m .h) t i in
-      let sizes = in-sizes c (node-read m p t state ok i b) in
+      let its = each-bounded c (node-read m p t state ok i b) in
       fault-written (nodeLine i (bits (c .earlier) ∷ bits (c .z) ∷ bits (c .u) ∷ bits (c .v) ∷ [])) l (suc i) fine refl
-      (pattern l 3 _ _ (sizes .0), (pattern l 11 _ _ (sizes .1), (pattern l 19 _ _ (sizes .2), (pattern l 27 _ _ (sizes .3), tt))))
+      (pattern l 3 _ _ (its .earlier), (pattern l 11 _ _ (its .z), (pattern l 19 _ _ (its .u), (pattern l 27 _ _ (its .v), tt))))
       ∙ ap (λ (q : Node). text (nodeLine i (bits (q .earlier) ∷ bits (q .z) ∷ bits (q .u) ∷ bits (q .v) ∷ []))) (sym (node-same i b))
 
   line-written : (j : ℕ) → j < n + 2 → inUpper (lineAt n t j) ≡ text (lineOf n (E m) new k j)
   unfolding lineOf lineRows row23
   line-written zero h = head-written
-  line-written (suc i) h = let rows = line-passed (suc i) h in go (ltb i n) refl (then-first _ _ rows) (then-rest _ _ rows)
+  line-written (suc i) h = let rows = line-read m p t state ok (suc i) h in go (ltb i n) refl (then-first _ _ rows) (then-rest _ _ rows)
     where
       go : (b : Bool) → ltb i n ≡ b → let l = lineAt n t (suc i) in let due = cond b nodeLayout endLayout in
           fault l (digitsOf (due .widths)) (due .kind) (suc i) (suc i) .number ≡ 0 → row (b || eqb (value l 3 2) n) 23 (suc i) .number ≡ 0
@@ -138,4 +115,4 @@ module _ (m : Mesh) (p : Parameters) (t : List ℕ) (state : List Float) (ok : l
 
   pub text-written : inUpper t ≡ saveText n (E m) new k
   text-written =
-      sym (take-all (startOf n (n + 2)) (inUpper t) (rw (save-long n, length-map t upper) no-longer)) ∙ lines-written (n + 2) (omega arith)
+      sym (take-all (startOf n (n + 2)) (inUpper t) (rw (save-long n, length-map t upper) (no-longer m p t state ok))) ∙ lines-written (n + 2) (omega arith)

@@ -28,7 +28,7 @@ use Rattle.nodes.proofs.PartLaws.{depth-in, mesh-parts, open-parts, parts-mesh}
 use Rattle.bounds.specs.State.{stateRuns, nodeOf, runRows}
 use Rattle.bounds.proofs.StateLaws.{in-bounds}
 use Rattle.surge.specs.Lent.{coldState, coldClock, windOf}
-use Rattle.surge.proofs.NextLaws.{all-five}
+use Rattle.limits.proofs.BoundLaws.{all-bounded}
 
 -- +0 is within every limit, and a depth of 1 or more is water enough
 one-is : decimal 1 1 ≡ fin false 1 (pos 0)
@@ -70,7 +70,13 @@ module _ (m : Mesh) (p : Parameters) (ok : meshRows accepted m p .number ≡ 0) 
   cold-node : (i : ℕ) → i < N m → inBounds (nodeOf (N m) (m .h) (coldState (N m)) i) ≡ true
   cold-node i l =
       rw (zero-at i 0 (lit< tt) l, zero-at i 1 (lit< tt) l, zero-at i 2 (lit< tt) l, zero-at i 3 (lit< tt) l)
-      (all-five _ (zero-small .0) (zero-small .0) (deep-enough _ (depth-in _ _ _ _ _ (mesh-parts _ m p ok .1) i l)) (zero-small .1) (zero-small .1))
+      (all-bounded _ (record {
+        earlier = zero-small .0;
+        z = zero-small .0;
+        column = deep-enough _ (depth-in _ _ _ _ _ (mesh-parts _ m p ok .1) i l);
+        u = zero-small .1;
+        v = zero-small .1;
+      }))
 
   pub cold-rows : runRows accepted m p (coldState (N m)) .number ≡ 0
   cold-rows = in-bounds m p (coldState (N m)) ok (length-table (stateRuns * N m) _) cold-node

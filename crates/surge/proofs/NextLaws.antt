@@ -1,7 +1,7 @@
 -- A run that can be saved stays one: where a step accepts, what it leaves passes rows 10 and 12, as the next step and a save ask them.
 use Prim.Native.Nat.{ℕ, _<_}
 use mathlib.Core.Path.{_≡_, refl, ap}
-use mathlib.Core.Bool.{Bool, true, false, cond, _&&_}
+use mathlib.Core.Bool.{Bool, true, false, cond}
 use mathlib.Core.List.{List, [], _∷_}
 use native.Mathlib.Omega.{arith}
 use lib.Dec.{lit<}
@@ -11,17 +11,17 @@ use Rattle.rows.specs.Numbers.{inSize}
 use Rattle.rows.specs.declared.Answer.{Answer}
 use Rattle.lists.specs.Runs.{runsOf}
 use Rattle.rows.specs.Scan.{accepted}
-use Rattle.rows.proofs.ScanLaws.{row-holds, row-passed, then-first, then-rest, scan-clean, both-left, both-right}
+use Rattle.rows.proofs.ScanLaws.{row-holds, row-passed, then-first, then-rest, scan-clean}
 use Rattle.lists.proofs.RunLaws.{runs-length, run-read}
 use Rattle.quantities.specs.declared.Parameters.{Parameters}
 use Rattle.quantities.specs.declared.Forcing.{Forcing}
-use Rattle.quantities.specs.declared.Node.{Node}
 use Rattle.outcomes.specs.declared.Outcome.{Outcome}
 use Rattle.outcomes.specs.declared.Outcome.the-variants.{Accepted as Fine, Elevation, Column}
 use Rattle.quantities.specs.Operations.{_⊕_}
 use Rattle.quantities.specs.Constants.{tenth}
 use Rattle.outcomes.specs.Outcomes.{ofRise, speed, answerOf, riseRow, flowRow}
 use Rattle.limits.specs.Limits.{inBounds, row12Held, row12New}
+use Rattle.limits.proofs.BoundLaws.{all-bounded, each-bounded}
 use Rattle.mesh.specs.Lent.{Mesh, N}
 use Rattle.nodes.specs.Rows.{meshRows}
 use Rattle.bounds.specs.State.{nodeOf, runRows}
@@ -80,20 +80,6 @@ module _ (g : Given) (e : row13 g .number ≡ 0) (i : ℕ) (l : i < count g) whe
   unfolding flowRow
   north-passed = speed-passed _ _ i (λ q. absurd (omega (arith, q))) (then-rest _ _ both-passed)
 
--- a node's five tests, together and apart
-pub all-five : (c : Node) → inSize 30 (c .earlier) ≡ true → inSize 30 (c .z) ≡ true → le tenth (c .h ⊕ c .z) ≡ true → inSize 20 (c .u) ≡ true → inSize 20 (c .v) ≡ true
-    → inBounds c ≡ true
-unfolding inBounds
-all-five c e z w u v = rw (e, z, w, u, v)
-
-z-passed : (c : Node) → inBounds c ≡ true → inSize 30 (c .z) ≡ true
-unfolding inBounds
-z-passed c e = both-right (inSize 30 (c .earlier)) _ (both-left _ _ (both-left _ _ (both-left _ (inSize 20 (c .v)) e)))
-
-pub column-passed : (c : Node) → inBounds c ≡ true → le tenth (c .h ⊕ c .z) ≡ true
-unfolding inBounds
-column-passed c e = both-right (inSize 30 (c .earlier) && inSize 30 (c .z)) _ (both-left _ _ (both-left _ (inSize 20 (c .v)) e))
-
 -- ---- an accepted step
 module _ (m : Mesh) (p : Parameters) (s : Run) (f : Forcing) (r : Rooms) (first : stepRows m p s f r .number ≡ 0) (last : row13 (givenOf m p s f) .number ≡ 0) where
   ran : AcceptedRun (row1Rooms r (N m)) m p (s .state)
@@ -109,7 +95,13 @@ module _ (m : Mesh) (p : Parameters) (s : Run) (f : Forcing) (r : Rooms) (first 
       let g = givenOf m p s f in
       let a = rise-passed g (then-first _ _ last) i l in
       rw (four-runs (N m) (m .h) (λ j. node g j .z) (rise g) (U′ g) (V′ g) i l)
-      (all-five _ (z-passed _ (ran .bounds i l)) (a .0) (a .1) (east-passed g last i l) (north-passed g last i l))
+      (all-bounded _ (record {
+        earlier = each-bounded _ (ran .bounds i l) .z;
+        z = a .0;
+        column = a .1;
+        u = east-passed g last i l;
+        v = north-passed g last i l;
+      }))
 
   -- the next state passes what a call on a run asks
   pub next-rows : runRows accepted m p (advance m p s f .state) .number ≡ 0
