@@ -1,5 +1,5 @@
-//! Frames as hexadecimal, read in either case and written in upper case, for the two plain programs. Lengths are known when it is compiled and no digit is branched on, so that the compiler
-//! turns whole lines at a time.
+//! Frames as hexadecimal, read in either case and written in upper case, for the two plain programs. Lengths are known when it is compiled and no
+//! digit is branched on, so that the compiler turns whole lines at a time.
 
 /// The frame bytes of a head, a node and an end line, and the bytes of their lines.
 pub const HEAD: usize = 28;
