@@ -122,26 +122,26 @@ module _ (f : ℕ → Answer) (n : ℕ) {all : Bool} (e : all ≡ eqb (scan f n 
   pub all-accept : all ≡ true → accepted ≡ scan f n
   all-accept h = sym (scan-none f n (scan-clean f n (eqb-true _ _ (sym e ∙ h))))
 
--- ---- a row of one number: it accepts where its test holds
-module _ (test : ℕ → Bool) (number : ℕ) where
+-- ---- a row of one number, with a place for each turn: it accepts where its test holds
+module _ (test : ℕ → Bool) (number : ℕ) (place : ℕ → ℕ) where
   abbrev rowOf : ℕ → Answer
-  rowOf i = row (test i) (suc number) i
+  rowOf i = row (test i) (suc number) (place i)
 
   pub row-accepts : (i : ℕ) → test i ≡ eqb (rowOf i .number) 0
   unfolding row
   row-accepts i = go (test i)
     where
-      go : (b : Bool) → b ≡ eqb (row b (suc number) i .number) 0
+      go : (b : Bool) → b ≡ eqb (row b (suc number) (place i) .number) 0
       go true = refl
       go false = sym (ne-eqb (suc number) 0 (λ e. absurd (omega (arith, e))))
 
   met : {n : ℕ} → ((k : ℕ) → k < n → test k ≡ true) → (k : ℕ) → k < n → rowOf k .number ≡ 0
-  met h k l = ap (λ (a : Answer). a .number) (row-holds (suc number) k (h k l))
+  met h k l = ap (λ (a : Answer). a .number) (row-holds (suc number) (place k) (h k l))
 
   -- a loop that is left at the first place whose test fails
-  pub row-hit : {n i : ℕ} → i < n → ((k : ℕ) → k < i → test k ≡ true) → test i ≡ false → refused (suc number) i ≡ scan rowOf n
+  pub row-hit : {n i : ℕ} → i < n → ((k : ℕ) → k < i → test k ≡ true) → test i ≡ false → refused (suc number) (place i) ≡ scan rowOf n
   row-hit {n} {i} l h e =
-      let q = row-fails (suc number) i e in
+      let q = row-fails (suc number) (place i) e in
       sym q ∙ sym (scan-hit rowOf n i l (met h) (λ z. absurd (omega (arith, ap (λ (a : Answer). a .number) q, z))))
 
   pub row-none : {n : ℕ} → ((k : ℕ) → k < n → test k ≡ true) → accepted ≡ scan rowOf n

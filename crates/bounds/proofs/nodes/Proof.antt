@@ -24,7 +24,7 @@ loop-again c =
     let a = l .before .before .before .args in
     let test : ℕ → Bool = λ i. inBounds (nodeOf (a .n) (a .h .now) (a .state .now) i) in
     let asked = c .in-bounds .ensures ∙ ap inBounds (c .before .node-of .ensures) in
-    (omega arith, all-more _ _ (l .loop .inv .1) (asked ∙ row-accepts test 9 _))
+    (omega arith, all-more _ _ (l .loop .inv .1) (asked ∙ row-accepts test 9 (λ i. i) _))
 
 returns : tie.Need-returns Inv-loop μ-loop
 returns c =

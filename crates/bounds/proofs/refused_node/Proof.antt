@@ -28,7 +28,7 @@ unfolding row10
 returns c =
     let b = c .before .before in
     let t = b .before .before in
-    c .refuse .ensures ∙ row-hit (test (t .before)) 9 (t .loop-test .taken) (t .before .loop .inv .1) (asked b ∙ not-true _ (c .before .if1 .taken))
+    c .refuse .ensures ∙ row-hit (test (t .before)) 9 (λ i. i) (t .loop-test .taken) (t .before .loop .inv .1) (asked b ∙ not-true _ (c .before .if1 .taken))
 
 loop-again : tie.Need-loop-again Inv-loop μ-loop
 loop-again c =
@@ -39,7 +39,7 @@ returns-2 : tie.Need-returns-2 Inv-loop μ-loop
 unfolding row10
 returns-2 c =
     let l = c .before .before in
-    c .accept .ensures ∙ row-none (test l) 9 (λ k h. l .loop .inv .1 k (omega arith))
+    c .accept .ensures ∙ row-none (test l) 9 (λ i. i) (λ k h. l .loop .inv .1 k (omega arith))
 
 pub refused-node-spec : {M : Type 1} → statement M
 refused-node-spec =

@@ -25,7 +25,7 @@ loop-again c =
     let l = c .before .before .before .before in
     let a = l .before .before .before .args in
     let test : ℕ → Bool = λ i. isNode (getD (a .h .now) i nan) (getD (a .kind .now) i 0) in
-    (omega arith, all-more _ _ (l .loop .inv .1) (c .is-node .ensures ∙ row-accepts test 7 _))
+    (omega arith, all-more _ _ (l .loop .inv .1) (c .is-node .ensures ∙ row-accepts test 7 (λ i. i) _))
 
 returns : tie.Need-returns Inv-loop μ-loop
 returns c =

@@ -28,7 +28,7 @@ returns c =
     let b = c .before .before in
     let t = b .before .before .before in
     let l = t .before in
-    c .refuse .ensures ∙ row-hit (test l) 7 (t .loop-test .taken) (l .loop .inv .1) (sym (b .is-node .ensures) ∙ not-true _ (c .before .if1 .taken))
+    c .refuse .ensures ∙ row-hit (test l) 7 (λ i. i) (t .loop-test .taken) (l .loop .inv .1) (sym (b .is-node .ensures) ∙ not-true _ (c .before .if1 .taken))
 
 loop-again : tie.Need-loop-again Inv-loop μ-loop
 loop-again c =
@@ -39,7 +39,7 @@ returns-2 : tie.Need-returns-2 Inv-loop μ-loop
 unfolding row8
 returns-2 c =
     let l = c .before .before in
-    c .accept .ensures ∙ row-none (test l) 7 (λ k h. l .loop .inv .1 k (omega arith))
+    c .accept .ensures ∙ row-none (test l) 7 (λ i. i) (λ k h. l .loop .inv .1 k (omega arith))
 
 pub refused-depth-spec : {M : Type 1} → statement M
 refused-depth-spec =

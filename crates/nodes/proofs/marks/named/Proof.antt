@@ -34,7 +34,7 @@ returns : tie.Need-returns Inv-loop μ-loop
 unfolding row7
 returns c =
     let t = c .before .before in
-    c .refuse .ensures ∙ row-hit (named (t .before)) 6 (t .loop-test .taken) (t .before .loop .inv .1) (mark t ∙ not-true _ (c .before .if1 .taken))
+    c .refuse .ensures ∙ row-hit (named (t .before)) 6 (λ i. i) (t .loop-test .taken) (t .before .loop .inv .1) (mark t ∙ not-true _ (c .before .if1 .taken))
 
 loop-again : tie.Need-loop-again Inv-loop μ-loop
 loop-again c = (search needs, below-more _ _ (c .before .before .loop .inv .1) (mark (c .before) ∙ not-false _ (c .if1 .left)))
@@ -43,7 +43,7 @@ returns-2 : tie.Need-returns-2 Inv-loop μ-loop
 unfolding row7
 returns-2 c =
     let l = c .before .before in
-    c .accept .ensures ∙ row-none (named l) 6 (λ k h. l .loop .inv .1 k (omega arith))
+    c .accept .ensures ∙ row-none (named l) 6 (λ i. i) (λ k h. l .loop .inv .1 k (omega arith))
 
 pub named-spec : {M : Type 1} → statement M
 named-spec =
