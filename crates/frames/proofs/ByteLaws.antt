@@ -2,7 +2,7 @@
 use Prim.Native.Nat.{ℕ, zero, suc, _+_, _*_, _/_, _%_, _^_, _≤_, _<_}
 use mathlib.Core.Path.{_≡_, refl, sym, ap, _∙_}
 use mathlib.Core.List.{List, [], _∷_, _++_}
-use mathlib.Core.Bool.{Bool, true, false, _&&_}
+use mathlib.Core.Bool.{Bool, true, false}
 use mathlib.Core.Logic.{_⊎_, inr, ⊎-elim}
 use native.Mathlib.Nat.{pow-suc, pow-zero, mul-assoc, mod-lt, div-lt-iff-lt-mul, div-add-mod', lt-of-lt-of-le, pow-le-pow-right}
 use native.Mathlib.Numerals.{add-one}
@@ -10,11 +10,10 @@ use native.Mathlib.Omega.{arith}
 use borrow.Author.Tests.{lt-ltb, ltb-true, ltb-false, eqb-true}
 use lib.Dec.{lit<, ltb, eqb}
 use lib.ListN.{length, take, drop, getD, length-append, length-drop}
-use lib.Seq.{drop-cons, take-suc, take-all, take-take, getD-drop}
+use lib.Seq.{take-suc, take-all, take-take, getD-drop}
 use Rattle.rows.specs.Scan.{row, _then_, scan}
 use Rattle.rows.proofs.ScanLaws.{row-passed, scan-clean}
 use Rattle.frames.specs.Bytes.{digit, worth, isDigit, digits, byte, bytes, allDigits, field, number, sum}
-use Rattle.frames.specs.Private.{areDigits}
 
 -- ---- a test that holds of each number below n, by computation
 pub each-below : (test : ℕ → Bool) (n : ℕ) → scan (λ (k : ℕ). row (test k) 1 0) n .number ≡ 0 → (d : ℕ) → d < n → test d ≡ true
@@ -72,13 +71,6 @@ pub field-length : (w v : ℕ) → length (field w v) ≡ w
 unfolding field
 field-length zero v = refl
 field-length (suc w) v = rw (length-append, field-length w (v / 256), add-one)
-
--- ---- a text two characters at a time
-pub digits-pair : (s : List ℕ) (k : ℕ) → 2 * k + 1 < length s → allDigits (drop (2 * k) s) ≡ (areDigits s k && allDigits (drop (2 * (k + 1)) s))
-unfolding allDigits
-digits-pair s k h =
-    let e : 2 * (k + 1) ≡ suc (2 * k + 1) = omega arith in
-    rw (e, drop-cons s (2 * k) 0 (omega arith), ← add-one (2 * k), drop-cons s (2 * k + 1) 0 h)
 
 pub digits-none : (l : List ℕ) → length l ≤ 1 → allDigits l ≡ true
 unfolding allDigits
@@ -173,8 +165,3 @@ pub sum-join : (a b : List ℕ) → sum (a ++ b) ≡ sum a + sum b
 unfolding sum
 sum-join [] b = omega arith
 sum-join (x ∷ a) b = let e = sum-join a b in omega arith
-
--- the sum so far, with one byte more in it
-pub sum-more : (a b : ℕ) (l : List ℕ) → (a % 256 + b + sum l) % 256 ≡ (a + sum (b ∷ l)) % 256
-unfolding sum
-sum-more a b l = omega arith

@@ -1,4 +1,5 @@
 pub mod ByteLaws
+pub mod TallyLaws
 pub mod FrameLaws
 pub mod BackLaws
 pub mod SpellingLaws

@@ -1,14 +1,8 @@
 -- How a line is taken apart, for laws and for the contracts of private functions. No public contract cites it.
-use Prim.Native.Nat.{ℕ, _+_, _*_, _^_, _<_, _≤_}
-use mathlib.Core.Bool.{Bool, _&&_}
+use Prim.Native.Nat.{ℕ, _^_, _<_, _≤_}
 use mathlib.Core.List.{List, [], _∷_}
 use lib.ListN.{getD}
-use Rattle.frames.specs.Bytes.{isDigit}
 use Rattle.frames.specs.Frames.{Field, wide}
-
--- the characters of byte k are digits
-abbrev pub areDigits : List ℕ → ℕ → Bool
-areDigits t k = isDigit (getD t (2 * k) 0) && isDigit (getD t (2 * k + 1) 0)
 
 -- how many bytes each field has
 abbrev pub widthsOf : List Field → List ℕ

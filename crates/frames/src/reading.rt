@@ -22,7 +22,7 @@ pub fn value(line: &[u8], at: usize, width: usize) -> u64
     let mut v: u64 = 0;
     let mut k: usize = 0;
     while k < count {
-        v = v * 256 + digits::pair_at(line, at + k).byte as u64;
+        v = v * 256 + digits::byte_at(line, at + k) as u64;
         k += 1;
     }
     v

@@ -22,7 +22,7 @@ loop-again c =
     let k = p .loop .k in
     let l : k < length (p .loop .out) = omega arith in
     let m : k < length b = rw bytes-length (omega arith) in
-    (omega arith, simp length-set (p .loop .inv .1), rw (add-one, take-suc-set (p .loop .out) k (c .pair-at .result .byte) l, take-suc b k 0 m, p .loop .inv .2, c .pair-at .ensures .0))
+    (omega arith, simp length-set (p .loop .inv .1), rw (add-one, take-suc-set (p .loop .out) k (c .byte-at .result) l, take-suc b k 0 m, p .loop .inv .2, c .byte-at .ensures .0))
 
 pub frame-spec : {M : Type 1} → statement M
 frame-spec =

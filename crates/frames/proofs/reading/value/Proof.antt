@@ -35,12 +35,11 @@ returns-2 c =
 
 loop-again : tie.Need-loop-again Inv-loop μ-loop
 loop-again c =
-    let r = c .before in
-    let p = r .before .before in
+    let p = c .before .before in
     let a = p .before .before .before .before .before .args in
     let w = within (p .before) in
     let l : a .at + p .loop .k < length (bytes (a .line .now)) = rw bytes-length (omega arith) in
-    (omega arith, number-grows _ _ _ (p .loop .inv .1) (r .pair-at .ensures .1), rw (p .loop .inv .2, r .pair-at .ensures .0) (sym (number-more (bytes (a .line .now)) (a .at) (p .loop .k) l)))
+    (omega arith, number-grows _ _ _ (p .loop .inv .1) (c .byte-at .ensures .1), rw (p .loop .inv .2, c .byte-at .ensures .0) (sym (number-more (bytes (a .line .now)) (a .at) (p .loop .k) l)))
 
 returns-3 : tie.Need-returns-3 Inv-loop μ-loop
 unfolding value
@@ -58,5 +57,5 @@ value-spec =
     tie.close
     (tie.spec Inv-loop μ-loop (λ c. rw (lt-leb _ _ (c .if1 .taken))) returns-2 (λ c. (omega arith, omega arith, refl)) (λ c. omega (arith, small c))
     (λ c. omega (arith, within (c .before .before))) (λ c κs. omega (arith, within (c .before .before)))
-    (λ c. omega arith) (λ c. omega (arith, small (c .before .before))) (λ c. omega (arith, within (c .before .before .before .before))) (λ c. omega arith) loop-again
+    (λ c. omega arith) (λ c. omega (arith, small (c .before))) (λ c. omega (arith, within (c .before .before .before))) (λ c. omega arith) loop-again
     returns-3)
