@@ -2,9 +2,9 @@
 //! work room of floats only Au and Av take some. Node numbers are trusted, lengths and digits too.
 
 use crate::bare_grids;
-use crate::formulas::{new_elevation, new_velocity, shares, slope, Corner, Shares, Sides, Sums, Terms, HELD_LAND, OPEN};
+use crate::formulas::{new_elevation, new_velocity, shares, slope, Corner, New, Shares, Sides, Sums, Terms, HELD_LAND, OPEN};
 use crate::hex;
-use crate::run::{Answer, Clock, Forcing, GridRooms, Known, Mesh, Program, Rooms, State};
+use crate::run::{fill_winds, Answer, Clock, Forcing, GridRooms, Known, Mesh, Program, Rooms, State};
 
 pub struct Bare;
 
@@ -23,6 +23,12 @@ fn place<T>(slice: &mut [T], i: usize) -> &mut T {
     unsafe { slice.get_unchecked_mut(i) }
 }
 
+#[inline(always)]
+fn corner(mesh: &Mesh, state: State, i: usize) -> Corner {
+    let State { earlier, z, u, v, wx, wy } = state;
+    Corner { h: at(mesh.h, i), earlier: at(earlier, i), z: at(z, i), u: at(u, i), v: at(v, i), wx: at(wx, i), wy: at(wy, i) }
+}
+
 fn sides(mesh: &Mesh, corners: [usize; 3]) -> Sides {
     Sides::of(corners.map(|i| at(mesh.x, i)), corners.map(|i| at(mesh.y, i)))
 }
@@ -37,8 +43,7 @@ fn gather<const ADVECTION: bool>(mesh: &Mesh, terms: &Terms, state: State, r: &m
     for corners in mesh.corners() {
         let sides = sides(mesh, corners);
         let d = sides.twice_area();
-        let water =
-            corners.map(|i| Corner { h: at(mesh.h, i), earlier: at(state.earlier, i), z: at(state.z, i), u: at(state.u, i), v: at(state.v, i) });
+        let water = corners.map(|i| corner(mesh, state, i));
         let Shares { r: given, carried: [of_u, of_v] } = shares::<ADVECTION>(terms, water, &sides, d);
         for j in 0..3 {
             *place(r, corners[j]) += given[j];
@@ -74,40 +79,91 @@ fn slopes(mesh: &Mesh, state: State, z_new: &[f64], px: &mut [f64], py: &mut [f6
 }
 
 fn flows<const ADVECTION: bool>(mesh: &Mesh, terms: &Terms, state: State, known: Known, px: &mut [f64], py: &mut [f64]) {
-    let Known { z_new, carried, sums } = known;
+    let Known { z_new, forcing, carried, sums } = known;
     for i in 0..mesh.nodes() {
-        let water = Corner { h: at(mesh.h, i), earlier: 0.0, z: at(state.z, i), u: at(state.u, i), v: at(state.v, i) };
+        let new = New { z: at(z_new, i), wx: at(forcing.wx, i), wy: at(forcing.wy, i) };
         let gathered = Sums { px: at(px, i), py: at(py, i), carried: at(carried, i), s: at(sums, i) };
-        let (east, north) = new_velocity::<ADVECTION>(terms, water, at(z_new, i), gathered);
+        let (east, north) = new_velocity::<ADVECTION>(terms, corner(mesh, state, i), new, gathered);
         let held = at(mesh.kind, i) == HELD_LAND;
         *place(px, i) = if held { 0.0 } else { east };
         *place(py, i) = if held { 0.0 } else { north };
     }
 }
 
-fn step<const ADVECTION: bool>(mesh: &Mesh, rooms: Rooms, state: &[f64], clock: Clock, forcing: Forcing) -> (Answer, Clock) {
+fn step<const ADVECTION: bool>(mesh: &Mesh, rooms: Rooms, state: &[f64], clock: Clock, forcing: &[f64]) -> (Answer, Clock) {
     let n = mesh.nodes();
-    let terms = Terms::of(mesh.p, clock, forcing);
-    let state = State::of(state, n);
+    let terms = Terms::of(mesh.p);
+    let (state, new) = (State::of(state, n), Forcing::of(forcing, n));
     let (earlier, rest) = rooms.next.split_at_mut(n);
     let (z, rest) = rest.split_at_mut(n);
-    let (u, v) = rest.split_at_mut(n);
+    let (u, rest) = rest.split_at_mut(n);
+    let (v, winds) = rest.split_at_mut(n);
     let (carried, _) = rooms.work[..2 * n].as_chunks_mut::<2>();
     earlier.copy_from_slice(state.z);
     gather::<ADVECTION>(mesh, &terms, state, z, carried, rooms.sums);
-    raise(mesh, &terms, state, z, rooms.sums, forcing.elevation);
+    raise(mesh, &terms, state, z, rooms.sums, new.elevation);
     slopes(mesh, state, z, u, v);
-    flows::<ADVECTION>(mesh, &terms, state, Known { z_new: z, carried, sums: rooms.sums }, u, v);
-    (Answer::accepted(0), clock.advanced(forcing))
+    flows::<ADVECTION>(mesh, &terms, state, Known { z_new: z, forcing: new, carried, sums: rooms.sums }, u, v);
+    winds.copy_from_slice(&forcing[1..]);
+    (Answer::accepted(0), clock.advanced())
 }
 
+/// The sum of all D.
+fn areas(mesh: &Mesh) -> u64 {
+    let twice = |corners: [usize; 3]| {
+        let [x1, x2, x3] = corners.map(|i| i64::from(at(mesh.x, i)));
+        let [y1, y2, y3] = corners.map(|i| i64::from(at(mesh.y, i)));
+        (x2 - x1) * (y3 - y1) - (x1 - x3) * (y1 - y2)
+    };
+    mesh.corners().map(|corners| twice(corners) as u64).sum()
+}
+
+/// The frame of the line that a text begins with.
 #[inline(always)]
-fn read_line<const BYTES: usize>(line: &[u8]) -> [u8; BYTES] {
+fn read_line<const BYTES: usize>(text: &[u8]) -> [u8; BYTES] {
     let mut frame = [0; BYTES];
-    for (byte, &[high, low]) in frame.iter_mut().zip(line.as_chunks::<2>().0) {
+    for (byte, &[high, low]) in frame.iter_mut().zip(text.as_chunks::<2>().0) {
         *byte = hex::worth_of_digit(high) << 4 | hex::worth_of_digit(low);
     }
     frame
+}
+
+/// The lines of n nodes into their runs.
+#[inline(always)]
+fn read_nodes<const BYTES: usize, const RUNS: usize>(text: &[u8], n: usize, runs: &mut [f64]) {
+    for (i, line) in text.chunks_exact(hex::line(BYTES)).take(n).enumerate() {
+        let frame: [u8; BYTES] = read_line(line);
+        for (run, value) in hex::floats::<RUNS>(&frame[hex::FIELDS..]).into_iter().enumerate() {
+            *place(runs, run * n + i) = value;
+        }
+    }
+}
+
+fn load_1(text: &[u8], n: usize, state: &mut [f64]) -> Clock {
+    let head: [u8; hex::HEAD_1] = read_line(text);
+    read_nodes::<{ hex::NODE_1 }, 4>(&text[hex::line(hex::HEAD_1)..], n, state);
+    fill_winds(&mut state[4 * n..], hex::wind_1(&head));
+    Clock { step: hex::four_bytes(&head, 7) }
+}
+
+fn load_2(text: &[u8], n: usize, state: &mut [f64]) -> Clock {
+    let head: [u8; hex::HEAD] = read_line(text);
+    read_nodes::<{ hex::NODE }, 6>(&text[hex::line(hex::HEAD) + hex::line(hex::PARAMETERS)..], n, state);
+    Clock { step: hex::four_bytes(&head, 7) }
+}
+
+fn read_one_wind(text: &[u8], forcing: &mut [f64]) {
+    let frame: [u8; hex::ONE_WIND] = read_line(text);
+    let [elevation, wx, wy] = hex::floats(&frame[hex::FIELDS..]);
+    forcing[0] = elevation;
+    fill_winds(&mut forcing[1..], [wx, wy]);
+}
+
+fn read_winds(text: &[u8], forcing: &mut [f64]) {
+    let sea: [u8; hex::SEA] = read_line(text);
+    [forcing[0]] = hex::floats(&sea[hex::FIELDS..]);
+    let n = forcing.len() / 2;
+    read_nodes::<{ hex::WIND }, 2>(&text[hex::line(hex::SEA)..], n, &mut forcing[1..]);
 }
 
 impl Program for Bare {
@@ -122,7 +178,7 @@ impl Program for Bare {
     }
 
     #[inline(never)]
-    fn step(&self, mesh: &Mesh, rooms: Rooms, state: &[f64], clock: Clock, forcing: Forcing) -> (Answer, Clock) {
+    fn step(&self, mesh: &Mesh, rooms: Rooms, state: &[f64], clock: Clock, forcing: &[f64]) -> (Answer, Clock) {
         // chosen here, once, so that no loop asks for the setting
         let step = if mesh.p.advection { step::<true> } else { step::<false> };
         step(mesh, rooms, state, clock, forcing)
@@ -131,30 +187,21 @@ impl Program for Bare {
     #[inline(never)]
     fn save(&self, mesh: &Mesh, text: &mut [u8], state: &[f64], clock: Clock) -> Answer {
         let n = mesh.nodes();
-        let State { earlier, z, u, v } = State::of(state, n);
-        let (head, rest) = text.split_at_mut(hex::HEAD_LINE);
-        let (lines, rest) = rest.split_at_mut(hex::NODE_LINE * n);
-        hex::write_head(head.try_into().unwrap(), n, mesh.triangles(), clock.step, clock.wx, clock.wy);
-        for (i, line) in lines.as_chunks_mut::<{ hex::NODE_LINE }>().0.iter_mut().enumerate() {
-            hex::write_node(line, i, [at(earlier, i), at(z, i), at(u, i), at(v, i)]);
-        }
-        hex::write_end(rest.first_chunk_mut().unwrap(), n);
-        Answer::accepted(70 + 73 * n)
+        hex::write_save(mesh, &mut text[..hex::save(n)], State::of(state, n), clock, areas(mesh));
+        Answer::accepted(hex::save(n))
     }
 
     #[inline(never)]
     fn load(&self, mesh: &Mesh, state: &mut [f64], text: &[u8], _: Clock) -> (Answer, Clock) {
-        let n = mesh.nodes();
-        let head: [u8; hex::HEAD] = read_line(&text[..hex::HEAD_LINE]);
-        let (lines, _) = text[hex::HEAD_LINE..].as_chunks::<{ hex::NODE_LINE }>();
-        for (i, line) in lines.iter().take(n).enumerate() {
-            let frame: [u8; hex::NODE] = read_line(line);
-            for run in 0..4 {
-                *place(state, run * n + i) = hex::float(&frame, 3 + 8 * run);
-            }
-        }
-        let clock = Clock { step: hex::four_bytes(&head, 7), wx: hex::float(&head, 11), wy: hex::float(&head, 19) };
-        (Answer::accepted(0), clock)
+        let load = if text.starts_with(b"01") { load_1 } else { load_2 };
+        (Answer::accepted(0), load(text, mesh.nodes(), state))
+    }
+
+    #[inline(never)]
+    fn read_forcing(&self, forcing: &mut [f64], text: &[u8], _: u32) -> Answer {
+        let read = if text.starts_with(b"10") { read_one_wind } else { read_winds };
+        read(text, forcing);
+        Answer::accepted(0)
     }
 
     #[inline(never)]

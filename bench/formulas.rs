@@ -1,8 +1,8 @@
-//! The formulas of document 01 on single values, m and advection as #102 and #103 of document 02 have them, shared by the two plain programs. The
-//! operations and their order are the documents', so that the bits are the product's. What does not change within a step is worked out once, before the
-//! loops; whether advection is on is known when a loop is compiled, so that off costs nothing.
+//! The formulas of document 01 on single values, m, advection and the nodes' winds as #102, #103 and #105 of document 02 have them, shared by the
+//! two plain programs. The operations and their order are the documents', so that the bits are the product's. What does not change within a step is
+//! worked out once, before the loops; whether advection is on is known when a loop is compiled, so that off costs nothing.
 
-use crate::run::{Clock, Forcing, Parameters};
+use crate::run::Parameters;
 
 const G: f64 = 9.81;
 
@@ -23,14 +23,10 @@ pub struct Terms {
     friction: f64,
     q: f64,
     pull: f64,
-    wx: f64,
-    wy: f64,
-    wx_new: f64,
-    wy_new: f64,
 }
 
 impl Terms {
-    pub fn of(p: Parameters, clock: Clock, forcing: Forcing) -> Terms {
+    pub fn of(p: Parameters) -> Terms {
         Terms {
             dt: p.dt,
             tau: p.tau,
@@ -41,10 +37,6 @@ impl Terms {
             friction: p.dt * p.k,
             q: (p.f * p.dt) / 2.0,
             pull: G * p.dt,
-            wx: clock.wx,
-            wy: clock.wy,
-            wx_new: forcing.wx,
-            wy_new: forcing.wy,
         }
     }
 }
@@ -57,6 +49,8 @@ pub struct Corner {
     pub z: f64,
     pub u: f64,
     pub v: f64,
+    pub wx: f64,
+    pub wy: f64,
 }
 
 /// a and b of a triangle, as floats.
@@ -145,14 +139,16 @@ pub fn shares<const ADVECTION: bool>(t: &Terms, corners: [Corner; 3], sides: &Si
     let risen = mean(corners.map(|c| c.z - c.earlier));
     let qx = mean(corners.map(|c| c.u * (c.h + c.z)));
     let qy = mean(corners.map(|c| c.v * (c.h + c.z)));
+    let wx = mean(corners.map(|c| c.wx));
+    let wy = mean(corners.map(|c| c.wy));
     let weight = G * mean(corners.map(|c| c.h));
     let (gx, gy) = (slope(z, b), slope(z, a));
     let (sx, sy) = (slope(squares, b), slope(squares, a));
     let twice = 2.0 * d;
     let flow = FlowSlopes::of(corners, sides);
     let [of_u, of_v] = flow.carried(qx, qy);
-    let jx = ((((less::<ADVECTION>(t.f * qy, of_u / d) - (G * sx) / twice) + t.wx) - t.k * ub) + (ub * risen) / t.dt) + t.tau * qx;
-    let jy = ((((less::<ADVECTION>((-t.f) * qx, of_v / d) - (G * sy) / twice) + t.wy) - t.k * vb) + (vb * risen) / t.dt) + t.tau * qy;
+    let jx = ((((less::<ADVECTION>(t.f * qy, of_u / d) - (G * sx) / twice) + wx) - t.k * ub) + (ub * risen) / t.dt) + t.tau * qx;
+    let jy = ((((less::<ADVECTION>((-t.f) * qx, of_v / d) - (G * sy) / twice) + wy) - t.k * vb) + (vb * risen) / t.dt) + t.tau * qy;
     let share = |j: usize| (jx * b[j] + jy * a[j]) / 2.0 - (weight * (gx * b[j] + gy * a[j])) / twice;
     Shares { r: [share(0), share(1), share(2)], carried: flow.carried(ub, vb) }
 }
@@ -174,18 +170,26 @@ pub struct Sums {
     pub s: u64,
 }
 
+/// What a node has after the step, but for U' and V'.
+#[derive(Clone, Copy)]
+pub struct New {
+    pub z: f64,
+    pub wx: f64,
+    pub wy: f64,
+}
+
 /// U' and V' of a node that is not held land.
 #[inline(always)]
-pub fn new_velocity<const ADVECTION: bool>(t: &Terms, c: Corner, z_new: f64, sums: Sums) -> (f64, f64) {
+pub fn new_velocity<const ADVECTION: bool>(t: &Terms, c: Corner, new: New, sums: Sums) -> (f64, f64) {
     let column = c.h + c.z;
-    let column_new = c.h + z_new;
+    let column_new = c.h + new.z;
     let (s, [au, av]) = (sums.s as f64, sums.carried);
     let twice = 2.0 * s;
     let (p, m, q) = (1.0 + t.friction / (2.0 * column_new), 1.0 - t.friction / (2.0 * column), t.q);
     let gx = (t.pull * sums.px) / twice;
     let gy = (t.pull * sums.py) / twice;
-    let wx = (t.dt * (t.wx_new / column_new + t.wx / column)) / 2.0;
-    let wy = (t.dt * (t.wy_new / column_new + t.wy / column)) / 2.0;
+    let wx = (t.dt * (new.wx / column_new + c.wx / column)) / 2.0;
+    let wy = (t.dt * (new.wy / column_new + c.wy / column)) / 2.0;
     let rx = less::<ADVECTION>((m * c.u + q * c.v) - gx, (t.dt * au) / s) + wx;
     let ry = less::<ADVECTION>((m * c.v - q * c.u) - gy, (t.dt * av) / s) + wy;
     let n = p * p + q * q;

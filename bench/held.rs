@@ -1,6 +1,8 @@
 //! What one program holds of a run while it is measured.
 
-use crate::run::{Answer, Clock, Forcing, Grid, Mesh, Program, Rooms};
+use crate::hex;
+use crate::run::{Answer, Clock, Grid, Mesh, Program, Rooms};
+use crate::world::Log;
 
 pub struct Held<'a> {
     pub program: &'a dyn Program,
@@ -8,6 +10,7 @@ pub struct Held<'a> {
     pub text: Vec<u8>,
     pub clock: Clock,
     pub grid: Grid,
+    pub forcing: Vec<f64>,
     next: Vec<f64>,
     work: Vec<f64>,
     sums: Vec<u64>,
@@ -18,11 +21,12 @@ impl<'a> Held<'a> {
         let n = mesh.nodes();
         Held {
             program,
-            state: vec![0.0; 4 * n],
-            text: vec![0; 70 + 73 * n],
+            state: vec![0.0; 6 * n],
+            text: vec![0; hex::save(n)],
             clock: Clock::COLD,
             grid: Grid::of([n, n, n, mesh.tri.len()]),
-            next: vec![0.0; 4 * n],
+            forcing: vec![0.0; 1 + 2 * n],
+            next: vec![0.0; 6 * n],
             work: vec![0.0; 5 * n],
             sums: vec![0; n],
         }
@@ -40,10 +44,10 @@ impl<'a> Held<'a> {
         self.clock = Clock::COLD;
     }
 
-    /// Steps by each forcing; the next state becomes the present one.
-    pub fn steps(&mut self, mesh: &Mesh, forcings: &[Forcing]) {
-        for &forcing in forcings {
-            let (answer, clock) = self.step(mesh, forcing);
+    /// So many steps by a log; the next state becomes the present one.
+    pub fn steps(&mut self, mesh: &Mesh, log: &Log, count: usize) {
+        for _ in 0..count {
+            let (answer, clock) = self.step(mesh, log.at(self.clock.step));
             self.accepted(answer);
             self.clock = clock;
             std::mem::swap(&mut self.state, &mut self.next);
@@ -51,7 +55,7 @@ impl<'a> Held<'a> {
     }
 
     /// One call, whatever it answers.
-    pub fn step(&mut self, mesh: &Mesh, forcing: Forcing) -> (Answer, Clock) {
+    pub fn step(&mut self, mesh: &Mesh, forcing: &[f64]) -> (Answer, Clock) {
         let rooms = Rooms { next: &mut self.next, work: &mut self.work, sums: &mut self.sums };
         self.program.step(mesh, rooms, &self.state, self.clock, forcing)
     }
@@ -65,6 +69,11 @@ impl<'a> Held<'a> {
         let (answer, clock) = self.program.load(mesh, &mut self.state, &self.text, self.clock);
         self.accepted(answer);
         self.clock = clock;
+    }
+
+    pub fn read_forcing(&mut self, text: &[u8]) {
+        let answer = self.program.read_forcing(&mut self.forcing, text, 0);
+        self.accepted(answer);
     }
 
     pub fn read_grid(&mut self, text: &[u8]) {
@@ -81,9 +90,9 @@ impl<'a> Held<'a> {
         assert_eq!(answer.number, 0, "{} refused: {answer:?}", self.program.name());
     }
 
-    /// The state's and the clock's bits, for comparing.
+    /// The bits of the state, of the forcing read last, and the clock, for comparing.
     pub fn bits(&self) -> Vec<u64> {
-        let clock = [self.clock.wx, self.clock.wy, f64::from(self.clock.step)];
-        self.state.iter().chain(&clock).map(|v| v.to_bits()).collect()
+        let numbers = self.state.iter().chain(&self.forcing).map(|v| v.to_bits());
+        numbers.chain([self.clock.step.into()]).collect()
     }
 }

@@ -2,7 +2,8 @@
 //! `tools/bench` builds and runs it; docs/SPEED.md has the figures of one run.
 //!
 //!     bench [ROUNDS]              the tables
-//!     bench CALL PROGRAM COUNT    one call by one program, for a profiler: open, step, step-on, save, load or grid by product, tested or bare
+//!     bench CALL PROGRAM COUNT    one call by one program, for a profiler: open, step, step-on, save, load, forcing or grid, by product, tested or
+//!                                 bare
 
 mod agree;
 mod agree_grids;
@@ -15,20 +16,21 @@ mod parts;
 mod product;
 mod run;
 mod tested;
+mod texts;
 mod timing;
 mod world;
 
 use bare::Bare;
 use held::Held;
 use product::Product;
-use run::{Forcing, Mesh, Program};
+use run::{Mesh, Program};
 use tested::Tested;
 use timing::{interleaved, Times};
-use world::{forcings, respell, World};
+use world::{respell, Log, World};
 
-/// A measure takes this many steps, and saves, loads and grid readings, in each round.
+/// A measure takes this many steps, and calls that read or write a text, in each round.
 const STEPS: usize = 1_000;
-const SAVES: usize = 20;
+const TEXTS: usize = 20;
 
 /// The steps of a measure of growth, times its nodes: short, since there are five.
 const NODE_STEPS: usize = 600_000;
@@ -48,22 +50,23 @@ fn main() {
     let (faults, right) = agree_grids::readings();
     println!("{faults} faults of grid texts and {right} right ones likewise");
     let world = World::grid(80, 50);
-    let forcings = forcings(STEPS);
-    let (off, on) = calls(rounds, &world, &forcings);
-    growth(rounds, &forcings);
-    parts_of_a_step(rounds, "a step", &world, &off, forcings[0]);
-    parts_of_a_step(rounds, "a step, advection on", &world.with_advection(), &on, forcings[0]);
+    let log = world.log(STEPS);
+    let (off, on) = calls(rounds, &world, &log);
+    growth(rounds);
+    parts_of_a_step(rounds, "a step", &world, &off, log.at(0));
+    parts_of_a_step(rounds, "a step, advection on", &world.with_advection(), &on, log.at(0));
     parts_of_a_reading(rounds, &world);
 }
 
-/// One call by one program, so many times. Steps begin anew after as many as there are forcings.
+/// One call by one program, so many times. Steps begin anew at the end of the log.
 fn only(call: &str, name: &str, count: usize) {
     let mut world = World::grid(80, 50);
     world.p.advection = call == "step-on";
     let mesh = world.mesh();
     let program = PROGRAMS.iter().find(|program| program.name() == name).expect("product, tested or bare");
     let mut run = Held::new(*program, &mesh);
-    let (forcings, grid) = (forcings(STEPS), world.grid_text());
+    let (log, grid) = (world.log(STEPS), world.grid_text());
+    let winds = texts::winds(log.at(0));
     run.save(&mesh);
     for at in 0..count {
         match call {
@@ -72,12 +75,13 @@ fn only(call: &str, name: &str, count: usize) {
                 if at % STEPS == 0 {
                     run.restart();
                 }
-                run.steps(&mesh, &forcings[at % STEPS..][..1]);
+                run.steps(&mesh, &log, 1);
             }
             "save" => run.save(&mesh),
             "load" => run.load(&mesh),
+            "forcing" => run.read_forcing(&winds),
             "grid" => run.read_grid(&grid),
-            _ => panic!("open, step, step-on, save, load or grid"),
+            _ => panic!("open, step, step-on, save, load, forcing or grid"),
         }
     }
 }
@@ -127,18 +131,32 @@ fn line(call: &str, count: usize, times: &[Times]) {
     );
 }
 
-/// Steps from the cold start by every forcing; the programs hold the same afterwards.
-fn steps(rounds: usize, mesh: &Mesh, runs: &mut [Held], forcings: &[Forcing]) -> Vec<Times> {
+/// A line of the table for a call that reads or writes a text, after which the programs hold the same.
+fn text_line(rounds: usize, call: &str, runs: &mut [Held], work: impl Fn(&mut Held)) -> Vec<Times> {
+    let times = interleaved(rounds, runs, |run| (0..TEXTS).for_each(|_| work(run)));
+    line(call, TEXTS, &times);
+    same(runs);
+    times
+}
+
+/// What such a call takes for each byte of its text, to stand below the table.
+fn by_the_byte(call: &str, bytes: usize, times: &[Times]) -> String {
+    let [p, b, c] = [0, 1, 2].map(|at: usize| times[at].best() / (TEXTS * bytes) as f64 * 1e9);
+    format!("| {call} | {bytes} | {p:.3} | {b:.3} | {c:.3} |")
+}
+
+/// So many steps from the cold start by a log; the programs hold the same afterwards.
+fn steps(rounds: usize, mesh: &Mesh, runs: &mut [Held], log: &Log, count: usize) -> Vec<Times> {
     let times = interleaved(rounds, runs, |run| {
         run.restart();
-        run.steps(mesh, forcings);
+        run.steps(mesh, log, count);
     });
     same(runs);
     times
 }
 
-/// The five calls by the three programs, a step at both settings. The states after the steps come back, without advection and with it.
-fn calls(rounds: usize, world: &World, forcings: &[Forcing]) -> (Vec<f64>, Vec<f64>) {
+/// The calls by the three programs, a step at both settings. The states after the steps come back, without advection and with it.
+fn calls(rounds: usize, world: &World, log: &Log) -> (Vec<f64>, Vec<f64>) {
     let mesh = world.mesh();
     println!("N {}, E {}, {rounds} rounds, shortest round\n", mesh.nodes(), mesh.triangles());
     println!("| call | product | (b) tested | (c) bare | product/(b) | product/(c) | by medians |");
@@ -147,59 +165,81 @@ fn calls(rounds: usize, world: &World, forcings: &[Forcing]) -> (Vec<f64>, Vec<f
     line("open", 1, &interleaved(rounds, &mut runs, |run| run.open(&mesh)));
     let mut as_set = held(&[&Product, &AS_SET, &Bare], world);
     line("open, (b) with row 6 by pairs", 1, &interleaved(rounds, &mut as_set, |run| run.open(&mesh)));
-    line("step", STEPS, &steps(rounds, &mesh, &mut runs, forcings));
+    line("step", STEPS, &steps(rounds, &mesh, &mut runs, log, STEPS));
     let mut on = held(&PROGRAMS, world);
-    line("step, advection on", STEPS, &steps(rounds, &world.with_advection().mesh(), &mut on, forcings));
+    line("step, advection on", STEPS, &steps(rounds, &world.with_advection().mesh(), &mut on, log, STEPS));
     assert!(on[0].bits() != runs[0].bits(), "the setting changes nothing");
-    line("save", SAVES, &interleaved(rounds, &mut runs, |run| (0..SAVES).for_each(|_| run.save(&mesh))));
-    same(&runs);
-    let stepped = runs[0].bits();
-    line("load", SAVES, &interleaved(rounds, &mut runs, |run| (0..SAVES).for_each(|_| run.load(&mesh))));
-    same(&runs);
-    runs.iter_mut().for_each(|run| respell(&mut run.text));
-    line("load, digits in both cases", SAVES, &interleaved(rounds, &mut runs, |run| (0..SAVES).for_each(|_| run.load(&mesh))));
-    same(&runs);
-    assert!(runs[0].bits() == stepped, "another state after the loads");
-    let by_the_byte = readings(rounds, world, &mut runs, &mut as_set);
-    println!("\nstates after {STEPS} steps bit-equal at either setting, saves byte-equal, loads give the state back, grids read bit-equal");
-    println!("{by_the_byte}\n");
-    (runs.swap_remove(0).state, on.swap_remove(0).state)
+    let stepped = runs[0].state.clone();
+    let mut below = saves(rounds, &mesh, &mut runs);
+    below.push(forcings(rounds, &mut runs, log));
+    below.push(grids(rounds, world, &mut runs, &mut as_set));
+    println!("\nstates after {STEPS} steps bit-equal at either setting, saves byte-equal, loads give the state back, what is read bit-equal");
+    println!("\n| ns for each byte | bytes | product | (b) | (c) |");
+    println!("|---|---|---|---|---|");
+    println!("{}\n", below.join("\n"));
+    (stepped, on.swap_remove(0).state)
 }
 
-/// The lines of the grid readings. What they are by the byte comes back, to stand below the table.
-fn readings(rounds: usize, world: &World, runs: &mut [Held], as_set: &mut [Held]) -> String {
+/// The lines of saves and of loads; what they take for each byte comes back. The last load, of edition 1, leaves one wind at every node.
+fn saves(rounds: usize, mesh: &Mesh, runs: &mut [Held]) -> Vec<String> {
+    let stepped = runs[0].bits();
+    let mut below = Vec::new();
+    let mut measured = |call: &str, runs: &mut [Held], work: fn(&mut Held, &Mesh)| {
+        let times = text_line(rounds, call, runs, |run| work(run, mesh));
+        below.push(by_the_byte(call, runs[0].text.len(), &times));
+    };
+    measured("save", runs, |run, mesh| run.save(mesh));
+    measured("load", runs, |run, mesh| run.load(mesh));
+    runs.iter_mut().for_each(|run| respell(&mut run.text));
+    measured("load, digits in both cases", runs, |run, mesh| run.load(mesh));
+    assert!(runs[0].bits() == stepped, "another state after the loads");
+    let old = texts::edition_1(mesh, &runs[0].state, runs[0].clock.step, [0.002, -0.001]);
+    runs.iter_mut().for_each(|run| run.text.clone_from(&old));
+    measured("load of edition 1", runs, |run, mesh| run.load(mesh));
+    assert!(runs[0].bits() != stepped, "the wind of edition 1 is not loaded");
+    below
+}
+
+/// The lines of forcing readings, of a wind for each node and of one for all. A line of kind 10 fills a whole room, so that its bytes say nothing.
+fn forcings(rounds: usize, runs: &mut [Held], log: &Log) -> String {
+    let (winds, one_wind) = (texts::winds(log.at(0)), texts::one_wind(0, 0.5, [0.002, -0.001]));
+    let call = "read_forcing, kinds 14 and 15";
+    let times = text_line(rounds, call, runs, |run| run.read_forcing(&winds));
+    text_line(rounds, "read_forcing, kind 10", runs, |run| run.read_forcing(&one_wind));
+    by_the_byte(call, winds.len(), &times)
+}
+
+/// The lines of the grid readings.
+fn grids(rounds: usize, world: &World, runs: &mut [Held], as_set: &mut [Held]) -> String {
     let text = world.grid_text();
-    let read = |run: &mut Held| (0..SAVES).for_each(|_| run.read_grid(&text));
-    let times = interleaved(rounds, runs, read);
-    line("read_grid", SAVES, &times);
-    line("read_grid, (b) reading twice", SAVES, &interleaved(rounds, as_set, read));
+    let read = |run: &mut Held| run.read_grid(&text);
+    let times = text_line(rounds, "read_grid", runs, read);
+    text_line(rounds, "read_grid, (b) reading twice", as_set, read);
     let due = world.as_read().bits();
     for run in runs.iter().chain(&*as_set) {
         assert!(run.grid.bits() == due, "{}: another grid", run.program.name());
     }
-    let bytes = text.len();
-    let [p, b, c] = [0, 1, 2].map(|at: usize| times[at].best() / (SAVES * bytes) as f64 * 1e9);
-    format!("read_grid for each of its {bytes} bytes: product {p:.2} ns, (b) {b:.2} ns, (c) {c:.2} ns")
+    by_the_byte("read_grid", text.len(), &times)
 }
 
 /// The time of a step for each node, as the mesh grows.
-fn growth(rounds: usize, forcings: &[Forcing]) {
+fn growth(rounds: usize) {
     println!("| N | E | product, ns per node and step | (b) | (c) | product/(b) | product/(c) |");
     println!("|---|---|---|---|---|---|---|");
     for (across, along) in [(25, 10), (25, 20), (40, 25), (50, 40), (80, 50)] {
         let world = World::grid(across, along);
         let mesh = world.mesh();
         let n = mesh.nodes();
-        let count = (NODE_STEPS / n).min(forcings.len());
+        let count = (NODE_STEPS / n).min(STEPS);
         let mut runs = held(&PROGRAMS, &world);
-        let times = steps(rounds, &mesh, &mut runs, &forcings[..count]);
+        let times = steps(rounds, &mesh, &mut runs, &world.log(count), count);
         let [p, b, c] = [0, 1, 2].map(|at: usize| times[at].best() / (count * n) as f64 * 1e9);
         println!("| {n} | {} | {p:.1} | {b:.1} | {c:.1} | {} | {} |", mesh.triangles(), ratio(p, b), ratio(p, c));
     }
     println!();
 }
 
-fn parts_of_a_step(rounds: usize, name: &str, world: &World, state: &[f64], forcing: Forcing) {
+fn parts_of_a_step(rounds: usize, name: &str, world: &World, state: &[f64], forcing: &[f64]) {
     let programs: [&dyn Program; 2] = [&Product, &TESTED];
     let parts = parts::outside(rounds, &programs, world, state);
     println!("| part of {name}, by refused calls | product | (b) | ratio |");
@@ -214,8 +254,7 @@ fn parts_of_a_step(rounds: usize, name: &str, world: &World, state: &[f64], forc
     compare("the whole", |t| t.whole);
     println!("\n| part of {name}, (b) by itself | time |");
     println!("|---|---|");
-    let run = Held::new(&TESTED, &world.mesh());
-    for (name, seconds) in parts::inside(rounds, world, state, &run, forcing) {
+    for (name, seconds) in parts::inside(rounds, world, state, forcing) {
         println!("| {name} | {} |", time(seconds));
     }
     println!();

@@ -16,7 +16,7 @@ const READINGS: usize = 20;
 
 /// The seconds of a program's parts, told apart from outside by calls that are refused at a known point.
 pub struct Outside {
-    /// a call that row 12 refuses: rows 1 to 12
+    /// a call that row 12 refuses at the first node, so that no time goes to the search for it: rows 1 to 12
     pub rows: f64,
     /// a call that row 13 refuses at the last node's elevation: what is above, both clearings, the first pass (with advection Au and Av too), z'
     pub levels: f64,
@@ -26,22 +26,23 @@ pub struct Outside {
 
 /// The two programs' parts, in turn.
 pub fn outside(rounds: usize, programs: &[&dyn Program], world: &World, state: &[f64]) -> Vec<Outside> {
-    let calm = Forcing { elevation: 0.0, wx: 0.0, wy: 0.0 };
-    let stormy = Forcing { wy: 1.0, ..calm };
-    let dry = Forcing { elevation: -30.0, ..calm };
+    let calm = vec![0.0; 1 + 2 * world.x.len()];
+    let (mut stormy, mut dry) = (calm.clone(), calm.clone());
+    stormy[1] = 1.0;
+    dry[0] = -30.0;
     // the last node alone is open, and above the water that is asked for there
     let mut last_open = world.clone();
     last_open.kind.fill(0);
     *last_open.kind.last_mut().unwrap() = 1;
     *last_open.h.last_mut().unwrap() = 25.0;
     let mut times = [(world, stormy, 12), (&last_open, dry, 13), (world, calm, 0)]
-        .map(|(world, forcing, row)| calls(rounds, programs, world, state, forcing, row).into_iter());
+        .map(|(world, forcing, row)| calls(rounds, programs, world, state, &forcing, row).into_iter());
     let mut next = |which: usize| times[which].next().unwrap();
     programs.iter().map(|_| Outside { rows: next(0), levels: next(1), whole: next(2) }).collect()
 }
 
 /// The seconds of each program's call, which must answer `row`.
-fn calls(rounds: usize, programs: &[&dyn Program], world: &World, state: &[f64], forcing: Forcing, row: u32) -> Vec<f64> {
+fn calls(rounds: usize, programs: &[&dyn Program], world: &World, state: &[f64], forcing: &[f64], row: u32) -> Vec<f64> {
     let mesh = world.mesh();
     let mut runs: Vec<Held> = programs.iter().map(|&program| Held::new(program, &mesh)).collect();
     for run in &mut runs {
@@ -73,26 +74,27 @@ pub fn readings(rounds: usize, programs: &[&dyn Program], world: &World) -> Vec<
 }
 
 /// The seconds of the tested program's parts, each by itself, at the setting of the world.
-pub fn inside(rounds: usize, world: &World, numbers: &[f64], held: &Held, forcing: Forcing) -> Vec<(&'static str, f64)> {
+pub fn inside(rounds: usize, world: &World, numbers: &[f64], forced: &[f64]) -> Vec<(&'static str, f64)> {
     let inside = if world.p.advection { inside_at::<true> } else { inside_at::<false> };
-    inside(rounds, world, numbers, held, forcing)
+    inside(rounds, world, numbers, forced)
 }
 
-fn inside_at<const ADVECTION: bool>(rounds: usize, world: &World, numbers: &[f64], held: &Held, forcing: Forcing) -> Vec<(&'static str, f64)> {
+fn inside_at<const ADVECTION: bool>(rounds: usize, world: &World, numbers: &[f64], forced: &[f64]) -> Vec<(&'static str, f64)> {
     let mesh = world.mesh();
     let n = mesh.nodes();
-    let state = State::of(numbers, n);
-    let terms = Terms::of(mesh.p, held.clock, forcing);
+    let (state, forcing) = (State::of(numbers, n), Forcing::of(forced, n));
+    let terms = Terms::of(mesh.p);
     let (mut r, mut px, mut py) = (vec![0.0; n], vec![0.0; n], vec![0.0; n]);
-    let (mut work, mut next, mut sums) = (vec![0.0; 5 * n], vec![0.0; 4 * n], vec![0u64; n]);
+    let (mut work, mut next, mut sums) = (vec![0.0; 5 * n], vec![0.0; 6 * n], vec![0u64; n]);
     let mut carried = vec![[0.0; 2]; n];
     let mut parts = Vec::new();
     let mut part = |name: &'static str, work: &mut dyn FnMut()| parts.push((name, each(rounds, TIMES, work)));
-    let marks = mesh::triangles(&mesh).expect("a sound mesh");
-    part("rows 3 to 5 and the marks, over the triangles", &mut || assert!(black_box(mesh::triangles(black_box(&mesh))).is_ok()));
+    let marks = mesh::triangles(&mesh).expect("a sound mesh").marks;
+    part("rows 3 to 5, the marks and the sum of D, over the triangles", &mut || assert!(black_box(mesh::triangles(black_box(&mesh))).is_ok()));
     part("row 7, over the marks", &mut || assert!(mesh::row_7(black_box(&mesh), &marks).is_ok()));
     part("row 8, over the nodes", &mut || assert!(mesh::row_8(black_box(&mesh)).is_ok()));
     part("row 10, over the nodes", &mut || assert!(step::row_10(black_box(&mesh), numbers).is_ok()));
+    part("row 12, over the nodes", &mut || assert!(step::row_12(black_box(forcing)).is_ok()));
     let gathered = if ADVECTION { "R, S, Au and Av, over the triangles" } else { "R and S, over the triangles" };
     part(gathered, &mut || step::gather::<ADVECTION>(black_box(&mesh), &terms, state, &mut r, &mut carried, &mut sums));
     // z' is made in the place of R, so that later rounds find z' there: the time does not go by the value
@@ -100,12 +102,12 @@ fn inside_at<const ADVECTION: bool>(rounds: usize, world: &World, numbers: &[f64
     r.copy_from_slice(state.z);
     part("row 13 of z'", &mut || assert!(step::row_13_levels(black_box(&mesh), &r).is_ok()));
     part("Px and Py, over the triangles", &mut || step::slopes(black_box(&mesh), state, &r, &mut px, &mut py));
-    let known = Known { z_new: &r, carried: &carried, sums: &sums };
+    let known = Known { z_new: &r, forcing, carried: &carried, sums: &sums };
     part("U' and V', over the nodes", &mut || step::flows::<ADVECTION>(black_box(&mesh), &terms, state, known, &mut px, &mut py));
     px.copy_from_slice(state.u);
     py.copy_from_slice(state.v);
     part("row 13 of U' and V'", &mut || assert!(step::row_13_speeds(black_box(&px), black_box(&py)).is_ok()));
-    part("the next state written", &mut || step::publish(&mut next, black_box(state), &work));
+    part("the next state written", &mut || step::publish(&mut next, black_box(state), &work, &forced[1..]));
     part("work room cleared", &mut || step::clear(black_box(&mut work), &mut sums));
     parts
 }

@@ -1,6 +1,6 @@
 //! The product, through include/surge.h. Nothing checks these declarations against the header; that the three programs give the same bits does.
 
-use crate::run::{Answer, Clock, Forcing, GridRooms, Mesh, Program, Rooms};
+use crate::run::{Answer, Clock, GridRooms, Mesh, Program, Rooms};
 
 #[link(name = "capi", kind = "static")]
 #[rustfmt::skip]
@@ -8,7 +8,7 @@ extern "C" {
     fn surge_open(
         state: *mut f64, state_length: usize,
         place: *mut usize, value: *mut f64,
-        step: *mut u32, wx: *mut f64, wy: *mut f64,
+        step: *mut u32,
         x: *const i32, x_length: usize,
         y: *const i32, y_length: usize,
         tri: *const u16, tri_length: usize,
@@ -21,15 +21,15 @@ extern "C" {
         work: *mut f64, work_length: usize,
         sums: *mut u64, sums_length: usize,
         place: *mut usize, value: *mut f64,
-        step: *mut u32, wx: *mut f64, wy: *mut f64,
+        step: *mut u32,
         state: *const f64, state_length: usize,
+        forcing: *const f64, forcing_length: usize,
         x: *const i32, x_length: usize,
         y: *const i32, y_length: usize,
         tri: *const u16, tri_length: usize,
         h: *const f64, h_length: usize,
         kind: *const u8, kind_length: usize,
         dt: f64, tau: f64, k: f64, f: f64, advection: u8,
-        elevation: f64, wx_new: f64, wy_new: f64,
     ) -> u32;
     fn surge_save(
         text: *mut u8, text_length: usize,
@@ -41,12 +41,12 @@ extern "C" {
         h: *const f64, h_length: usize,
         kind: *const u8, kind_length: usize,
         dt: f64, tau: f64, k: f64, f: f64, advection: u8,
-        step: u32, wx: f64, wy: f64,
+        step: u32,
     ) -> u32;
     fn surge_load(
         state: *mut f64, state_length: usize,
         place: *mut usize, value: *mut f64,
-        step: *mut u32, wx: *mut f64, wy: *mut f64,
+        step: *mut u32,
         text: *const u8, text_length: usize,
         x: *const i32, x_length: usize,
         y: *const i32, y_length: usize,
@@ -54,6 +54,12 @@ extern "C" {
         h: *const f64, h_length: usize,
         kind: *const u8, kind_length: usize,
         dt: f64, tau: f64, k: f64, f: f64, advection: u8,
+    ) -> u32;
+    fn surge_read_forcing(
+        forcing: *mut f64, forcing_length: usize,
+        place: *mut usize, value: *mut f64,
+        text: *const u8, text_length: usize,
+        expected: u32,
     ) -> u32;
     fn surge_read_grid(
         x: *mut i32, x_length: usize,
@@ -98,7 +104,7 @@ impl Program for Product {
             surge_open(
                 state.as_mut_ptr(), state.len(),
                 &mut r.place, &mut r.value,
-                &mut r.clock.step, &mut r.clock.wx, &mut r.clock.wy,
+                &mut r.clock.step,
                 m.x.as_ptr(), m.x.len(),
                 m.y.as_ptr(), m.y.len(),
                 m.tri.as_ptr(), m.tri.len(),
@@ -110,7 +116,7 @@ impl Program for Product {
         (r.answer(number), r.clock)
     }
 
-    fn step(&self, m: &Mesh, rooms: Rooms, state: &[f64], clock: Clock, forcing: Forcing) -> (Answer, Clock) {
+    fn step(&self, m: &Mesh, rooms: Rooms, state: &[f64], clock: Clock, forcing: &[f64]) -> (Answer, Clock) {
         let mut r = Reply::before(clock);
         let number = unsafe {
             surge_step(
@@ -118,15 +124,15 @@ impl Program for Product {
                 rooms.work.as_mut_ptr(), rooms.work.len(),
                 rooms.sums.as_mut_ptr(), rooms.sums.len(),
                 &mut r.place, &mut r.value,
-                &mut r.clock.step, &mut r.clock.wx, &mut r.clock.wy,
+                &mut r.clock.step,
                 state.as_ptr(), state.len(),
+                forcing.as_ptr(), forcing.len(),
                 m.x.as_ptr(), m.x.len(),
                 m.y.as_ptr(), m.y.len(),
                 m.tri.as_ptr(), m.tri.len(),
                 m.h.as_ptr(), m.h.len(),
                 m.kind.as_ptr(), m.kind.len(),
                 m.p.dt, m.p.tau, m.p.k, m.p.f, m.p.advection.into(),
-                forcing.elevation, forcing.wx, forcing.wy,
             )
         };
         (r.answer(number), r.clock)
@@ -145,7 +151,7 @@ impl Program for Product {
                 m.h.as_ptr(), m.h.len(),
                 m.kind.as_ptr(), m.kind.len(),
                 m.p.dt, m.p.tau, m.p.k, m.p.f, m.p.advection.into(),
-                clock.step, clock.wx, clock.wy,
+                clock.step,
             )
         };
         r.answer(number)
@@ -157,7 +163,7 @@ impl Program for Product {
             surge_load(
                 state.as_mut_ptr(), state.len(),
                 &mut r.place, &mut r.value,
-                &mut r.clock.step, &mut r.clock.wx, &mut r.clock.wy,
+                &mut r.clock.step,
                 text.as_ptr(), text.len(),
                 m.x.as_ptr(), m.x.len(),
                 m.y.as_ptr(), m.y.len(),
@@ -168,6 +174,19 @@ impl Program for Product {
             )
         };
         (r.answer(number), r.clock)
+    }
+
+    fn read_forcing(&self, forcing: &mut [f64], text: &[u8], expected: u32) -> Answer {
+        let mut r = Reply::before(Clock::COLD);
+        let number = unsafe {
+            surge_read_forcing(
+                forcing.as_mut_ptr(), forcing.len(),
+                &mut r.place, &mut r.value,
+                text.as_ptr(), text.len(),
+                expected,
+            )
+        };
+        r.answer(number)
     }
 
     fn read_grid(&self, rooms: GridRooms, text: &[u8]) -> Answer {

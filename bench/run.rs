@@ -12,23 +12,14 @@ pub struct Parameters {
 #[derive(Clone, Copy)]
 pub struct Clock {
     pub step: u32,
-    pub wx: f64,
-    pub wy: f64,
 }
 
 impl Clock {
-    pub const COLD: Clock = Clock { step: 0, wx: 0.0, wy: 0.0 };
+    pub const COLD: Clock = Clock { step: 0 };
 
-    pub fn advanced(self, forcing: Forcing) -> Clock {
-        Clock { step: self.step + 1, wx: forcing.wx, wy: forcing.wy }
+    pub fn advanced(self) -> Clock {
+        Clock { step: self.step + 1 }
     }
-}
-
-#[derive(Clone, Copy)]
-pub struct Forcing {
-    pub elevation: f64,
-    pub wx: f64,
-    pub wy: f64,
 }
 
 /// Number, place and value of the refusal table; number 0 accepts.
@@ -124,29 +115,57 @@ impl Grid {
     }
 }
 
-/// A state's four runs.
+/// A state's six runs.
 #[derive(Clone, Copy)]
 pub struct State<'a> {
     pub earlier: &'a [f64],
     pub z: &'a [f64],
     pub u: &'a [f64],
     pub v: &'a [f64],
+    pub wx: &'a [f64],
+    pub wy: &'a [f64],
 }
 
 impl<'a> State<'a> {
-    /// The runs of n numbers of a slice of 4n.
+    /// The runs of n numbers of a slice of 6n.
     pub fn of(numbers: &'a [f64], n: usize) -> State<'a> {
         let (earlier, rest) = numbers.split_at(n);
         let (z, rest) = rest.split_at(n);
-        let (u, v) = rest.split_at(n);
-        State { earlier, z, u, v }
+        let (u, rest) = rest.split_at(n);
+        let (v, rest) = rest.split_at(n);
+        let (wx, wy) = rest.split_at(n);
+        State { earlier, z, u, v, wx, wy }
     }
+}
+
+/// A forcing's elevation and its new winds.
+#[derive(Clone, Copy)]
+pub struct Forcing<'a> {
+    pub elevation: f64,
+    pub wx: &'a [f64],
+    pub wy: &'a [f64],
+}
+
+impl<'a> Forcing<'a> {
+    /// Of a slice of 1+2n.
+    pub fn of(numbers: &'a [f64], n: usize) -> Forcing<'a> {
+        let (wx, wy) = numbers[1..].split_at(n);
+        Forcing { elevation: numbers[0], wx, wy }
+    }
+}
+
+/// Gives every node one wind, in two runs of Wx and Wy.
+pub fn fill_winds(runs: &mut [f64], [wx, wy]: [f64; 2]) {
+    let (all_wx, all_wy) = runs.split_at_mut(runs.len() / 2);
+    all_wx.fill(wx);
+    all_wy.fill(wy);
 }
 
 /// What a step knows of every node before its U' and V'.
 #[derive(Clone, Copy)]
 pub struct Known<'a> {
     pub z_new: &'a [f64],
+    pub forcing: Forcing<'a>,
     /// Au and Av, side by side; not looked at where advection is off
     pub carried: &'a [[f64; 2]],
     /// S
@@ -157,8 +176,9 @@ pub struct Known<'a> {
 pub trait Program {
     fn name(&self) -> &'static str;
     fn open(&self, mesh: &Mesh, state: &mut [f64]) -> (Answer, Clock);
-    fn step(&self, mesh: &Mesh, rooms: Rooms, state: &[f64], clock: Clock, forcing: Forcing) -> (Answer, Clock);
+    fn step(&self, mesh: &Mesh, rooms: Rooms, state: &[f64], clock: Clock, forcing: &[f64]) -> (Answer, Clock);
     fn save(&self, mesh: &Mesh, text: &mut [u8], state: &[f64], clock: Clock) -> Answer;
     fn load(&self, mesh: &Mesh, state: &mut [f64], text: &[u8], clock: Clock) -> (Answer, Clock);
+    fn read_forcing(&self, forcing: &mut [f64], text: &[u8], expected: u32) -> Answer;
     fn read_grid(&self, rooms: GridRooms, text: &[u8]) -> Answer;
 }

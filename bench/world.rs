@@ -1,7 +1,7 @@
 //! The mesh and the forcings that are measured on: a grid whose nodes are moved by a seeded dice, so that no side is alike, its west side open and its
-//! east side held land.
+//! east side held land, under a wind that is another at every node.
 
-use crate::run::{Forcing, Grid, Mesh, Parameters};
+use crate::run::{Grid, Mesh, Parameters};
 
 /// Metres between the nodes of the grid, and how far one may be moved in x and in y.
 const SPACING: i32 = 1_000;
@@ -69,6 +69,20 @@ impl World {
         text.into_bytes()
     }
 
+    /// A tide and a wind that turns with time and over the mesh, for so many steps at least.
+    pub fn log(&self, steps: usize) -> Log {
+        Log { forcings: (0..steps.div_ceil(HOLD)).map(|at| self.forcing(at * HOLD)).collect() }
+    }
+
+    /// The elevation, then Wx' of all nodes, then Wy' of all nodes.
+    fn forcing(&self, step: usize) -> Vec<f64> {
+        let time = step as f64 / 150.0;
+        let turned: Vec<f64> = self.x.iter().zip(&self.y).map(|(&x, &y)| time + f64::from(x - y) / 30_000.0).collect();
+        let wx = turned.iter().map(|angle| 0.002 * angle.cos());
+        let wy = turned.iter().map(|angle| 0.001 * (2.0 * angle).sin());
+        [0.8 * time.sin()].into_iter().chain(wx).chain(wy).collect()
+    }
+
     /// What the grid text gives: a depth of this mesh is not always its thousandths divided by 1000.
     pub fn as_read(&self) -> Grid {
         let h = self.h.iter().map(|h| (h * 1_000.0).round() / 1_000.0).collect();
@@ -102,13 +116,20 @@ fn triangles(across: usize, along: usize) -> Vec<u16> {
     tri
 }
 
-/// A tide and a turning wind, step by step.
-pub fn forcings(count: usize) -> Vec<Forcing> {
-    let forcing = |step: usize| {
-        let angle = step as f64 / 150.0;
-        Forcing { elevation: 0.8 * angle.sin(), wx: 0.002 * angle.cos(), wy: 0.001 * (2.0 * angle).sin() }
-    };
-    (0..count).map(forcing).collect()
+/// How many steps are made by one forcing. With another at each of 1,000 steps a step would wait for the memory, where a forcing that was read just
+/// before it is at hand.
+const HOLD: usize = 40;
+
+/// Forcings, one after the other.
+pub struct Log {
+    forcings: Vec<Vec<f64>>,
+}
+
+impl Log {
+    /// The forcing of a step.
+    pub fn at(&self, step: u32) -> &[f64] {
+        &self.forcings[step as usize / HOLD]
+    }
 }
 
 /// A text with its letters in either case, at random, as another program may write it.

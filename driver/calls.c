@@ -8,7 +8,7 @@
 #define LENT(s, name) (s)->slices[name].at, (s)->slices[name].count
 #define MESH(s) LENT(s, X), LENT(s, Y), LENT(s, TRI), LENT(s, H), LENT(s, KIND)
 #define PARAMETERS(s) (s)->dt, (s)->tau, (s)->k, (s)->f, (s)->advection
-#define CLOCK(s) &(s)->step, &(s)->wx, &(s)->wy
+#define CLOCK(s) &(s)->step
 
 int script_begin(struct script *s, FILE *out)
 {
@@ -25,8 +25,9 @@ int script_begin(struct script *s, FILE *out)
         [NEXT] = {"next", FLOAT},
         [WORK] = {"work", FLOAT},
         [SUMS] = {"sums", UNSIGNED_64},
+        [FORCING] = {"forcing", FLOAT},
         [TEXT] = {"text", BYTE},
-        [LINE] = {"line", BYTE},
+        [LINES] = {"lines", BYTE},
     };
     int fine = 1;
     int i;
@@ -35,8 +36,6 @@ int script_begin(struct script *s, FILE *out)
     s->dt = s->tau = s->k = s->f = 0.0;
     s->advection = 0;
     s->step = 0;
-    s->wx = s->wy = 0.0;
-    s->elevation = s->wx_new = s->wy_new = 0.0;
     s->out = out;
     return fine;
 }
@@ -55,7 +54,7 @@ static void print_answer(FILE *out, const char *call, uint32_t number, size_t pl
 
 static void print_clock(const struct script *s)
 {
-    fprintf(s->out, "clock %" PRIu32 " %016" PRIX64 " %016" PRIX64 "\n", s->step, pattern_of(s->wx), pattern_of(s->wy));
+    fprintf(s->out, "clock %" PRIu32 "\n", s->step);
 }
 
 void call_open(struct script *s)
@@ -71,8 +70,8 @@ void call_step(struct script *s)
 {
     size_t place;
     double value;
-    uint32_t number = surge_step(LENT(s, NEXT), LENT(s, WORK), LENT(s, SUMS), &place, &value, CLOCK(s), LENT(s, STATE), MESH(s),
-                                 PARAMETERS(s), s->elevation, s->wx_new, s->wy_new);
+    uint32_t number = surge_step(LENT(s, NEXT), LENT(s, WORK), LENT(s, SUMS), &place, &value, CLOCK(s), LENT(s, STATE), LENT(s, FORCING),
+                                 MESH(s), PARAMETERS(s));
     print_answer(s->out, "step", number, place, value);
     print_clock(s);
 }
@@ -81,7 +80,7 @@ void call_save(struct script *s)
 {
     size_t place;
     double value;
-    uint32_t number = surge_save(LENT(s, TEXT), &place, &value, LENT(s, STATE), MESH(s), PARAMETERS(s), s->step, s->wx, s->wy);
+    uint32_t number = surge_save(LENT(s, TEXT), &place, &value, LENT(s, STATE), MESH(s), PARAMETERS(s), s->step);
     print_answer(s->out, "save", number, place, value);
 }
 
@@ -98,10 +97,10 @@ void call_read(struct script *s, uint32_t expected)
 {
     size_t place;
     double value;
-    uint32_t number = surge_read_forcing(&place, &value, &s->elevation, &s->wx_new, &s->wy_new, LENT(s, LINE), expected);
+    uint32_t number = surge_read_forcing(LENT(s, FORCING), &place, &value, LENT(s, LINES), expected);
+    if (number == 0)
+        slice_one_nan(&s->slices[FORCING]);
     print_answer(s->out, "read", number, place, value);
-    fprintf(s->out, "forcing %016" PRIX64 " %016" PRIX64 " %016" PRIX64 "\n", pattern_of_made(s->elevation), pattern_of_made(s->wx_new),
-            pattern_of_made(s->wy_new));
 }
 
 void call_grid(struct script *s)

@@ -7,7 +7,7 @@
 #include <stdint.h>
 #include <stdio.h>
 
-enum slice_name { X, Y, TRI, H, KIND, STATE, NEXT, WORK, SUMS, TEXT, LINE, SLICES };
+enum slice_name { X, Y, TRI, H, KIND, STATE, NEXT, WORK, SUMS, FORCING, TEXT, LINES, SLICES };
 
 struct script {
     struct slice slices[SLICES];
@@ -16,9 +16,6 @@ struct script {
     uint8_t advection;
     /* the clock */
     uint32_t step;
-    double wx, wy;
-    /* the forcing */
-    double elevation, wx_new, wy_new;
     FILE *out;
 };
 

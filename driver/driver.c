@@ -136,12 +136,7 @@ static enum outcome parameters(struct script *s, struct words *w)
 
 static enum outcome clock_is(struct script *s, struct words *w)
 {
-    return take_u32(w, &s->step) && take_float(w, &s->wx) && take_float(w, &s->wy) && is_last(w) ? DONE : BAD;
-}
-
-static enum outcome forcing(struct script *s, struct words *w)
-{
-    return take_float(w, &s->elevation) && take_float(w, &s->wx_new) && take_float(w, &s->wy_new) && is_last(w) ? DONE : BAD;
+    return take_u32(w, &s->step) && is_last(w) ? DONE : BAD;
 }
 
 /* The elements change places; the names stay. Both slices are of floats. */
@@ -252,7 +247,6 @@ static enum outcome command(struct script *s, const char *line, size_t length)
         {"add", add},
         {"parameters", parameters},
         {"clock", clock_is},
-        {"forcing", forcing},
         {"swap", swap},
         {"open", command_open},
         {"step", command_step},

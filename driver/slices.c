@@ -89,6 +89,17 @@ void slice_keep(struct slice *s, size_t count)
         s->count = count;
 }
 
+void slice_one_nan(struct slice *s)
+{
+    size_t i;
+    for (i = 0; i < s->count; i++) {
+        union element e;
+        memcpy(&e, place(s, i), width(s->form));
+        e.u64 = pattern_of_made(e.f64);
+        memcpy(place(s, i), &e, width(s->form));
+    }
+}
+
 int element_of(struct word w, enum form form, union element *to)
 {
     uint64_t v = 0;

@@ -42,6 +42,9 @@ int slice_add(struct slice *s, union element e, size_t times);
 void slice_put(struct slice *s, size_t at, union element e);
 void slice_keep(struct slice *s, size_t count);
 
+/* Gives every NaN of a slice of floats the one pattern that a call's NaNs are printed by: which one it wrote means nothing. */
+void slice_one_nan(struct slice *s);
+
 /* The slice as a `set` command, and the hash of its words. */
 void slice_print(const struct slice *s, FILE *out);
 uint64_t slice_digest(const struct slice *s);

@@ -9,8 +9,8 @@
  * allocates nothing, and holds nothing from one call to the next: a run is what the caller holds. There is no global state.
  *
  * Slices. A slice is two arguments, a pointer to its first element and the number of its elements. Any number may be passed: a
- * slice of numbers that has not the length named below is refused with 1 (a room for a grid with 33), a text or a line as its
- * call says, and only elements that are there are read or written. The pointer is aligned for its type and never NULL, even
+ * slice of numbers that has not the length named below is refused with 1 (a room for a grid with 33), a text as its call
+ * says, and only elements that are there are read or written. The pointer is aligned for its type and never NULL, even
  * where the number is 0, since the callee may take that for granted.
  *
  * Overlap. Memory that a call may write (arguments that are not `const`) overlaps no other argument. Arguments that are only
@@ -18,12 +18,12 @@
  *
  * Any contents may be lent: NaN, infinities, any bytes. A NaN is outside every range. After a refusal slices, rooms and clock
  * are left as found, but for the work room after a 13. The proofs know one NaN: where what was lent held a NaN, that the same
- * one, sign and payload, is still there is tested and not proved. Which NaN comes back as the value of a 13, or of a forcing
- * line that holds one, means nothing.
+ * one, sign and payload, is still there is tested and not proved. Which NaN comes back as the value of a 13, or in a forcing
+ * room of a text that holds one, means nothing.
  *
- * Answers. The result is the number of the refusal table of document 01, from 30 on of document 02, and 0 where the call was
- * accepted. Every call, refused or not, writes `*place` and `*value`: which triangle, node, parameter or line was refused, and
- * the offending value, which is +0 except after a 13.
+ * Answers. The result is the number of the refusal table of document 01, 25 and from 30 on of document 02, and 0 where the
+ * call was accepted. Every call, refused or not, writes `*place` and `*value`: which triangle, node, parameter or line was
+ * refused, and the offending value, which is +0 except after a 13.
  *
  *      1  the triangle list is no multiple of 3, or a slice has another length
  *      2  N not 3..4,096 or E not 1..8,192
@@ -36,10 +36,10 @@
  *      9  dt not 0.125..60, tau not 0..1, k not 0..1,
  *         f not -0.001..0.001                                   place: 0..3
  *     10  an elevation beyond 30, depth and present elevation
- *         below 0.1, or U or V beyond 20                        place: node
+ *         below 0.1, U or V beyond 20, or Wx or Wy beyond 0.1   place: node
  *     11  the step number is 4,294,967,295
- *     12  the held wind beyond 0.1; the new elevation beyond
- *         30; wx_new or wy_new beyond 0.1                       place: 0; 1; 2, 3
+ *     12  the forcing's elevation beyond 30; its Wx' or Wy' of
+ *         node i beyond 0.1                                     place: 1; 2+i
  *     13  a new elevation beyond 30, depth and new elevation
  *         below 0.1, or a new U or V beyond 20                  place: node; value: z', H', U' or V'
  *     20  a line of wrong length, a wrong digit, no line feed,
@@ -47,7 +47,8 @@
  *     21  the check byte                                        place: line
  *     22  the kind or the sequence                              place: line
  *     23  N or E differs                                        place: line
- *     24  the text room is below 70+73N                         place: 70+73N
+ *     24  the text room is below 127+105N                       place: 127+105N
+ *     25  dt, tau, K, f or the sum of all D differs in a bit    place: line
  *     30  a field of a grid file malformed, missing or too
  *         many, or a line missing                               place: line
  *     31  a node or triangle number out of order                place: line
@@ -70,14 +71,14 @@ extern "C" {
 /*
  * The arguments that the calls on a run share.
  *
- *   state         4N floats in four runs of N: earlier elevation, present elevation, U, V
+ *   state         6N floats in six runs of N: earlier elevation, present elevation, U, V, and the present wind Wx, Wy (stress over density)
  *   x, y          N whole metres; N is the length of x
  *   tri           3E node numbers from 0, three for each triangle, counter-clockwise
  *   h             N depths
  *   kind          N kinds: 0 free, 1 open, 2 held land
  *   dt, tau, k, f the time step, the report's tau-zero, linear bottom friction, Coriolis
  *   advection     the advective terms of document 02's #103: 0 is off, every other value on. No row speaks of it, and a save does not hold it.
- *   step, wx, wy  the clock: the step number and the present wind (stress over density)
+ *   step          the clock: the step number
  *   place, value  one number each, written by every call
  */
 
@@ -86,13 +87,13 @@ extern "C" {
  *
  *   state         written when accepted: the cold state, all +0. As found after a refusal.
  *   place, value  written
- *   step, wx, wy  one number each, written, refused or not: the cold clock, step 0 and a wind of +0. What they hold before is not read.
+ *   step          one number, written, refused or not: the cold clock, step 0. What it holds before is not read.
  *   the others    read
  */
 uint32_t surge_open(
     double *state, size_t state_length,
     size_t *place, double *value,
-    uint32_t *step, double *wx, double *wy,
+    uint32_t *step,
     const int32_t *x, size_t x_length,
     const int32_t *y, size_t y_length,
     const uint16_t *tri, size_t tri_length,
@@ -103,14 +104,13 @@ uint32_t surge_open(
 /*
  * Steps once: rows 1 to 5 and 7 to 13, in this order. Row 13 looks at all new elevations first, then, node by node, at U' and V'.
  *
- *   next          4N floats, written when accepted: the next state, in the runs of `state`. As found after a refusal.
+ *   next          6N floats, written when accepted: the next state, in the runs of `state`. As found after a refusal.
  *   work          5N floats of work room, at either setting of advection. All +0 after an accepted step or a 13, as found after any other refusal.
  *   sums          N whole numbers of work room. All 0 after an accepted step or a 13, as found after any other refusal.
  *   place, value  written
- *   step, wx, wy  one number each, read and written: the clock goes in, and the advanced clock comes back. A refusal writes what was found.
- *   state         4N floats, read: it stays the present state. The caller goes on from `next`.
- *   elevation     the forcing: the new elevation at open nodes,
- *   wx_new, wy_new    and the new wind
+ *   step          one number, read and written: the clock goes in, and the advanced clock comes back. A refusal writes what was found.
+ *   state         6N floats, read: it stays the present state. The caller goes on from `next`.
+ *   forcing       1+2N floats, read: the new elevation at open nodes, then the new wind, Wx' of all nodes and Wy' of all nodes
  *   the others    read
  */
 uint32_t surge_step(
@@ -118,24 +118,24 @@ uint32_t surge_step(
     double *work, size_t work_length,
     uint64_t *sums, size_t sums_length,
     size_t *place, double *value,
-    uint32_t *step, double *wx, double *wy,
+    uint32_t *step,
     const double *state, size_t state_length,
+    const double *forcing, size_t forcing_length,
     const int32_t *x, size_t x_length,
     const int32_t *y, size_t y_length,
     const uint16_t *tri, size_t tri_length,
     const double *h, size_t h_length,
     const uint8_t *kind, size_t kind_length,
-    double dt, double tau, double k, double f, uint8_t advection,
-    double elevation, double wx_new, double wy_new);
+    double dt, double tau, double k, double f, uint8_t advection);
 
 /*
- * Saves a run: rows 1 to 5, 7 to 10, 12 for the held wind only, and 24, in this order.
+ * Saves a run, in edition 2: rows 1 to 5, 7 to 10, and 24, in this order.
  *
- *   text          room for at least 70+73N bytes. When accepted its first 70+73N bytes are written, lines that end in a line feed with no
+ *   text          room for at least 127+105N bytes. When accepted its first 127+105N bytes are written, lines that end in a line feed with no
  *                 zero byte after them, and those past them are as found. As found after a refusal.
  *   place         written: the bytes of the save when accepted, and else the place of the refusal
  *   value         written
- *   step, wx, wy  the clock, by value: a save does not change it
+ *   step          the clock, by value: a save does not change it
  *   the others    read
  */
 uint32_t surge_save(
@@ -148,23 +148,25 @@ uint32_t surge_save(
     const double *h, size_t h_length,
     const uint8_t *kind, size_t kind_length,
     double dt, double tau, double k, double f, uint8_t advection,
-    uint32_t step, double wx, double wy);
+    uint32_t step);
 
 /*
- * Loads a run from a save. In this order: rows 1 to 5 and 7 to 9; the lines, from 0, in each 20, 21, 22, 23; bytes after the last line
- * (20, at line N+2); 12 for the wind that the head holds (place 0); 10 over the loaded values. A missing line is of wrong length (20).
+ * Loads a run from a save of either edition: a text that starts with 01 is of edition 1, any other of edition 2. In this order: rows 1 to 5
+ * and 7 to 9; the lines, from 0, in each 20, 21, 22, 23, 25; bytes after the last line (20, at line N+2 in edition 1, N+3 in edition 2); 10
+ * over the loaded values. A missing line is of wrong length (20). An edition 1 text gives every node the wind that its head holds, and has
+ * no line on which 25 is asked.
  *
- *   state         4N floats, written when accepted: the saved state. As found after a refusal. What it holds before is not looked at.
+ *   state         6N floats, written when accepted: the saved state. As found after a refusal. What it holds before is not looked at.
  *   place, value  written
- *   step, wx, wy  one number each, read and written: the saved clock when accepted, and else what was found
- *   text          the save: exactly the 70+73N bytes that surge_save wrote, without the room past them. Each of its letters A to F may
- *                 stand in lower case: a save has many readable spellings, all loaded alike, and one written form.
+ *   step          one number, read and written: the saved step number when accepted, and else what was found
+ *   text          the save: exactly the 127+105N bytes that surge_save wrote, without the room past them, or the 70+73N bytes of an
+ *                 edition 1 save. Each of its letters A to F may stand in lower case: a save has many readable spellings, all loaded alike.
  *   the others    read
  */
 uint32_t surge_load(
     double *state, size_t state_length,
     size_t *place, double *value,
-    uint32_t *step, double *wx, double *wy,
+    uint32_t *step,
     const uint8_t *text, size_t text_length,
     const int32_t *x, size_t x_length,
     const int32_t *y, size_t y_length,
@@ -174,17 +176,22 @@ uint32_t surge_load(
     double dt, double tau, double k, double f, uint8_t advection);
 
 /*
- * Reads one forcing line: 20, 21, 22, each at place 0. It takes part in no run.
+ * Reads one forcing: row 1 for the room; then, for a text that starts with 10, one line of kind 10: 20, 21, 22, each at place 0; for any other
+ * text N+1 lines, kind 14 with sequence 0 and kind 15 with sequence i+1 for node i: in each 20, 21, 22 with the line as place, then bytes
+ * after the last (20, at line N+1). It takes part in no run, and asks no row of the values.
  *
+ *   forcing       room for 1+2N floats, which says what N is, 0 among them; an even length is refused with 1. Written when accepted, as surge_step
+ *                 takes it: a line of kind 10 gives every node its wind. As found after a refusal.
  *   place, value  written
- *   elevation, wx, wy   one number each, written: the forcing when accepted, and three +0 when refused. What they hold before is not read.
- *   line          the line with its line feed, 57 bytes; any other number is refused with 20. Each digit may be of either case.
- *   expected      the sequence number due. Above 65,535 no line has it, so a line that is well formed is then refused with 22.
+ *   text          the lines with their line feeds: 57 bytes of kind 10, or 25 of kind 14 and 41 of kind 15 for each node. Each digit may
+ *                 be of either case.
+ *   expected      the sequence number due in a line of kind 10. Above 65,535 no line has it, so a line that is well formed is then refused with 22.
+ *                 Kinds 14 and 15 count within the step, and it is not looked at.
  */
 uint32_t surge_read_forcing(
+    double *forcing, size_t forcing_length,
     size_t *place, double *value,
-    double *elevation, double *wx, double *wy,
-    const uint8_t *line, size_t line_length,
+    const uint8_t *text, size_t text_length,
     uint32_t expected);
 
 /*

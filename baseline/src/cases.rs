@@ -2,9 +2,10 @@
 //! made anew on every run, so that the long ones need not be stored. What the
 //! program must print for them is [`print`](crate::printing::print)'s to say.
 
-use crate::frames::{Line, FORCING, HEAD};
+mod nodes;
+
+use crate::frames::{Kind, Line, FORCING, HEAD};
 use crate::printing::Run;
-use crate::records::Forcing;
 use std::ops::Range;
 
 /// An input of the printing program.
@@ -15,7 +16,7 @@ pub struct Case {
     pub input: Vec<u8>,
 }
 
-/// The fields of a forcing line, by name.
+/// The fields of a line of kind 10, by name.
 const FIELDS: [&str; 3] = ["elevation", "wx", "wy"];
 
 /// The limits of row 12 for them.
@@ -26,30 +27,26 @@ const CALM: [f64; 3] = [0.0; 3];
 /// A fresh breeze: accepted, and no field is zero.
 const BREEZE: [f64; 3] = [0.25, 0.015625, -0.0078125];
 
-/// How many lines there are: sequences 0 to 65,535.
+/// How many lines of kind 10 there are: sequences 0 to 65,535.
 const ALL: u32 = 65_536;
 
-/// The digits of a forcing line's sequence and check byte.
+/// The digits of such a line's sequence and check byte.
 const SEQUENCE: Range<usize> = 2..6;
 const CHECK: Range<usize> = 54..56;
 
-/// The digits of a forcing line before its check byte.
+/// The digits of such a line before its check byte.
 const BEFORE_CHECK: Range<usize> = 0..54;
 
-/// A frame of three patterns, with the right check byte.
-fn frame(kind: crate::frames::Kind, sequence: u32, patterns: [u64; 3]) -> Vec<u8> {
-    let mut line = Line::begin(kind, sequence as u16);
-    for pattern in patterns {
-        line = line
-            .four_bytes((pattern >> 32) as u32)
-            .four_bytes(pattern as u32);
-    }
+/// A line of patterns, with the right check byte.
+fn frame(kind: Kind, sequence: u32, patterns: &[u64]) -> Vec<u8> {
+    let begun = Line::begin(kind, sequence as u16);
+    let line = patterns.iter().copied().fold(begun, Line::eight_bytes);
     line.end().as_bytes().to_vec()
 }
 
-/// The forcing line of a sequence number and three numbers.
+/// The line of kind 10 of a sequence number and three numbers.
 fn line(sequence: u32, numbers: [f64; 3]) -> Vec<u8> {
-    frame(FORCING, sequence, numbers.map(f64::to_bits))
+    frame(FORCING, sequence, &numbers.map(f64::to_bits))
 }
 
 /// So many lines of sequence 0 on, all with these numbers.
@@ -81,9 +78,13 @@ fn mixed(mut lines: Vec<u8>) -> Vec<u8> {
     lines
 }
 
-/// A line with the lowest bit of one of its characters turned: another digit.
+/// A line with the lowest bit of one of its characters turned, or with a 0 where that
+/// is no digit: another digit.
 fn turned(mut line: Vec<u8>, place: usize) -> Vec<u8> {
     line[place] ^= 1;
+    if !line[place].is_ascii_hexdigit() {
+        line[place] = b'0';
+    }
     line
 }
 
@@ -110,6 +111,7 @@ pub fn cases() -> Vec<Case> {
     cases.refused_in_lower_case();
     cases.order();
     cases.past_the_last();
+    cases.nodes();
     cases.0
 }
 
@@ -206,7 +208,7 @@ impl Cases {
             patterns[field] = 0xFFF0_0000_0000_0001;
             self.add(
                 &format!("row12_{name}_other_nan"),
-                frame(FORCING, 0, patterns),
+                frame(FORCING, 0, &patterns),
             );
         }
     }
@@ -215,7 +217,10 @@ impl Cases {
     /// speed leaves its range. It takes hundreds of lines.
     fn row_13(&mut self) {
         for (name, east) in [("east", true), ("north", false)] {
-            let input = pumped(east);
+            let lines = (0..).zip(pumped(east));
+            let input: Vec<u8> = lines
+                .flat_map(|(sequence, [wx, wy])| line(sequence, [0.0, wx, wy]))
+                .collect();
             let accepted = input.len() - 57;
             self.add(
                 &format!("row13_{name}_last_accepted"),
@@ -259,7 +264,8 @@ impl Cases {
         self.add("row20_57_line_feeds", vec![b'\n'; 57]);
         self.first_and_later("row21_check", text(|l| turned(l, 55)));
         self.bad_later("row21_digit", text(|l| turned(l, 9)));
-        self.first_and_later("row22_kind", |s| frame(HEAD, s, BREEZE.map(f64::to_bits)));
+        // a head of edition 1 is as long, but is measured as kind 14
+        self.first_and_later("row20_head", |s| frame(HEAD, s, &BREEZE.map(f64::to_bits)));
         self.first_and_later("row22_next", |s| line(s + 1, BREEZE));
         self.bad_later("row22_far", |s| line(s + 256, BREEZE));
         self.add("row22_again", [line(0, BREEZE), line(0, BREEZE)].concat());
@@ -313,12 +319,19 @@ impl Cases {
     fn past_the_last(&mut self) {
         let all = long_log(ALL);
         let more = line(0, CALM);
+        let by_node = nodes::forcing(nodes::GUSTS);
         for (name, last) in [
             ("22_sequence_0", more.clone()),
             ("22_sequence_65535", line(ALL - 1, CALM)),
             ("21", turned(more.clone(), 55)),
             ("20", spoiled(more.clone(), 20, b'x')),
             ("20_short", more[..56].to_vec()),
+            // kinds 14 and 15 have no last forcing, and are forcings taken
+            ("nodes", by_node.clone()),
+            (
+                "22_after_nodes",
+                [&by_node[..], &line(ALL + 1, CALM)].concat(),
+            ),
         ] {
             self.add(&format!("past_the_last_{name}"), [&all[..], &last].concat());
         }
@@ -342,27 +355,26 @@ fn long_log(count: u32) -> Vec<u8> {
         .collect()
 }
 
-/// Wind of 0.1 along the flow, eastward or northward, up to and with the line
-/// that is refused.
-fn pumped(east: bool) -> Vec<u8> {
-    let mut input = Vec::new();
+/// Wind of 0.1 along the flow, eastward or northward: the winds of each forcing up
+/// to and with the one that is refused.
+fn pumped(east: bool) -> Vec<[f64; 2]> {
+    let mut winds = Vec::new();
     let Ok(mut run) = Run::open() else {
-        return input;
+        return winds;
     };
-    for sequence in 0..ALL {
+    for _ in 0..ALL {
         let (first, second) = if east { (6, 9) } else { (9, 6) };
         let along = 0.1_f64.copysign(run.state[first]);
         let across = 0.0_f64.copysign(run.state[second]);
-        let (wx, wy) = if east {
-            (along, across)
+        let [wx, wy] = if east {
+            [along, across]
         } else {
-            (across, along)
+            [across, along]
         };
-        input.extend(line(sequence, [0.0, wx, wy]));
-        let elevation = 0.0;
-        if run.step(Forcing { elevation, wx, wy }).is_err() {
+        winds.push([wx, wy]);
+        if run.step(&[0.0, wx, wx, wx, wy, wy, wy]).is_err() {
             break;
         }
     }
-    input
+    winds
 }

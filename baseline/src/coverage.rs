@@ -4,13 +4,16 @@
 
 mod advection;
 mod conditions;
+mod forcings;
 mod friction;
 mod grids;
 mod layouts;
 mod names;
 pub(crate) mod nans;
 mod spellings;
+mod texts;
 mod wanted;
+mod winds;
 
 use crate::generate::{generate, Family};
 use crate::script::{run_watched, Call, Called, Script};
@@ -19,12 +22,12 @@ use std::collections::{BTreeMap, BTreeSet};
 use wanted::{all_conditions, Reached};
 
 /// Every number that a call can answer.
-const NUMBERS: [u32; 23] = [
-    0, 1, 2, 3, 4, 5, 6, 7, 8, 9, 10, 11, 12, 13, 20, 21, 22, 23, 24, 30, 31, 32, 33,
+const NUMBERS: [u32; 24] = [
+    0, 1, 2, 3, 4, 5, 6, 7, 8, 9, 10, 11, 12, 13, 20, 21, 22, 23, 24, 25, 30, 31, 32, 33,
 ];
 
-/// The rows whose places are told apart.
-const PLACED: [u32; 2] = [9, 12];
+/// The row whose places are told apart.
+const PLACED: u32 = 9;
 
 /// What steps meet three times in a row, and what is said of the third.
 const IN_A_ROW: [(&str, &str); 2] = [
@@ -67,6 +70,8 @@ struct Trail {
     in_a_row: [usize; 2],
     crossing: advection::Crossing,
     latest: spellings::Latest,
+    loaded: texts::Loaded,
+    mixed: forcings::Mixed,
 }
 
 impl Trail {
@@ -74,7 +79,7 @@ impl Trail {
         let (call, number) = (called.call, called.answer.number);
         self.calls += 1;
         self.numbers.insert((call, number));
-        if PLACED.contains(&number) {
+        if number == PLACED {
             self.places.insert((call, number, called.answer.place));
         }
         let mut met = conditions(script, called);
@@ -83,6 +88,8 @@ impl Trail {
         met.extend(self.latest.follow(script, called));
         if number == 0 {
             met.extend(self.crossing.follow(script, called));
+            met.extend(self.loaded.follow(script, called));
+            met.extend(self.mixed.follow(script, called));
         }
         if call == Call::Step {
             met.extend(self.thirds(&met));

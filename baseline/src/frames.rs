@@ -1,13 +1,13 @@
-//! "Frames": digits, fields, check byte, the faults of a line, and the reading
-//! of one forcing line.
+//! "Frames": digits, fields, check byte, the faults of a line, and the lines of a
+//! text one after the other.
 
-use crate::records::{Answer, Forcing};
+use crate::records::Answer;
 
-/// The longest line, a node's: 72 digits and its line feed.
-const LONGEST_LINE: usize = 73;
+/// The longest line, a node's of edition 2: 104 digits and its line feed.
+const LONGEST_LINE: usize = 105;
 
 /// The bytes of the longest frame.
-const LONGEST_FRAME: usize = 36;
+const LONGEST_FRAME: usize = 52;
 
 /// The one pattern that every NaN is read and written as.
 const NAN_PATTERN: u64 = 0x7FF8_0000_0000_0000;
@@ -53,10 +53,28 @@ pub(crate) const NODE: Kind = Kind {
     digits: 72,
 };
 
-/// "03 end, sequence N+1: N (2). 12 digits."
+/// "03 end, sequence N+1: N (2). 12 digits." In edition 2 it is sequence N+2.
 pub(crate) const END: Kind = Kind {
     byte: 0x03,
     digits: 12,
+};
+
+/// "head 04 (N, E, step)".
+pub(crate) const HEAD_2: Kind = Kind {
+    byte: 0x04,
+    digits: 24,
+};
+
+/// "one line 05 (dt, tau, K, f, and the sum of all D in 8 bytes)".
+pub(crate) const SETTING: Kind = Kind {
+    byte: 0x05,
+    digits: 88,
+};
+
+/// "node lines 06 with six values".
+pub(crate) const NODE_2: Kind = Kind {
+    byte: 0x06,
+    digits: 104,
 };
 
 /// "10 forcing, its own sequence from 0 to 65,535: elevation, Wx', Wy'. 56
@@ -64,6 +82,18 @@ pub(crate) const END: Kind = Kind {
 pub(crate) const FORCING: Kind = Kind {
     byte: 0x10,
     digits: 56,
+};
+
+/// "kind 14 (sequence, open elevation)".
+pub(crate) const ELEVATION: Kind = Kind {
+    byte: 0x14,
+    digits: 24,
+};
+
+/// "kind 15 (sequence, Wx', Wy')".
+pub(crate) const WIND: Kind = Kind {
+    byte: 0x15,
+    digits: 40,
 };
 
 impl Kind {
@@ -107,9 +137,14 @@ impl Line {
         self.frame_bytes(&number.to_be_bytes())
     }
 
+    /// "Numbers are big-endian".
+    pub fn eight_bytes(self, number: u64) -> Line {
+        self.frame_bytes(&number.to_be_bytes())
+    }
+
     /// "floats are their 8-byte patterns".
     pub fn float(self, value: f64) -> Line {
-        self.frame_bytes(&pattern(value).to_be_bytes())
+        self.eight_bytes(pattern(value))
     }
 
     /// The check byte and the line feed: "All frame bytes sum to 0 modulo 256."
@@ -186,10 +221,14 @@ impl Frame {
         u32::from_be_bytes(self.bytes_at(at))
     }
 
+    /// The eight-byte number that begins at a frame byte.
+    pub fn eight_bytes(&self, at: usize) -> u64 {
+        u64::from_be_bytes(self.bytes_at(at))
+    }
+
     /// The float whose pattern begins at a frame byte.
     pub fn float(&self, at: usize) -> f64 {
-        let value = f64::from_bits(u64::from_be_bytes(self.bytes_at(at)));
-        f64::from_bits(pattern(value))
+        f64::from_bits(pattern(f64::from_bits(self.eight_bytes(at))))
     }
 
     fn bytes_at<const COUNT: usize>(&self, at: usize) -> [u8; COUNT] {
@@ -212,21 +251,44 @@ fn digit(byte: u8) -> Option<u8> {
     }
 }
 
-/// "Reading one forcing line against an expected sequence number gives 20, 21,
-/// 22, at place 0, and a refused one hands back a forcing of three +0."
-///
-/// The whole slice is the line with its line feed. A sequence number above
-/// 65,535 is met by no line.
-pub fn read_forcing(line: &[u8], expected: u32) -> (Answer, Forcing) {
-    match Frame::read(line, FORCING, expected) {
-        Ok(frame) => {
-            let forcing = Forcing {
-                elevation: frame.float(3),
-                wx: frame.float(11),
-                wy: frame.float(19),
-            };
-            (Answer::accepted(0), forcing)
+/// The lines of a text not yet gone through, and the number of the next. In a save
+/// of either edition, and in a forcing of kinds 14 and 15, the sequence number of a
+/// line is the number of the line.
+pub(crate) struct Reader<'a> {
+    rest: &'a [u8],
+    line: usize,
+}
+
+impl Reader<'_> {
+    /// A text from its first line on.
+    pub fn of(text: &[u8]) -> Reader<'_> {
+        let line = 0;
+        Reader { rest: text, line }
+    }
+
+    /// The next line, of the kind due there: "the length being that of the kind
+    /// due there", "and a missing line being of wrong length".
+    pub fn next(&mut self, kind: Kind) -> Result<Frame, Answer> {
+        let length = kind.line_length().min(self.rest.len());
+        let (line, rest) = self.rest.split_at(length);
+        let frame = Frame::read(line, kind, self.line as u32)
+            .map_err(|number| Answer::refused(number, self.line))?;
+        self.rest = rest;
+        self.line += 1;
+        Ok(frame)
+    }
+
+    /// A refusal of the line that was read last.
+    pub fn refused(&self, number: u32) -> Answer {
+        Answer::refused(number, self.line.saturating_sub(1))
+    }
+
+    /// 20: "bytes after the end", at the line that they would be.
+    pub fn end(self) -> Result<(), Answer> {
+        if self.rest.is_empty() {
+            Ok(())
+        } else {
+            Err(Answer::refused(20, self.line))
         }
-        Err(number) => (Answer::refused(number, 0), Forcing::ZERO),
     }
 }

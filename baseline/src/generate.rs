@@ -4,6 +4,7 @@
 
 pub(crate) mod dice;
 mod faults;
+mod forcings;
 mod grids;
 mod lines;
 mod nans;
@@ -24,7 +25,7 @@ use worlds::Manner;
 /// to reach.
 #[derive(Clone, Copy, Debug, PartialEq)]
 pub enum Family {
-    /// The calls on runs, and forcing lines.
+    /// The calls on runs, and forcings.
     Runs,
     /// Grid texts, and runs on the meshes that are read from them.
     Grids,
@@ -48,10 +49,10 @@ pub fn generate(family: Family, seed: u64, index: u64) -> Vec<u8> {
 
 fn runs_and_lines(pen: &mut Pen) {
     match pen.dice.below(100) {
-        0..26 => runs::run(pen),
-        26..68 => faults::faults(pen),
-        68..86 => texts::texts(pen),
-        86..93 => lines::reads(pen),
+        0..23 => runs::run(pen),
+        23..62 => faults::faults(pen),
+        62..85 => texts::texts(pen),
+        85..93 => forcings::reads(pen),
         93..99 => runs::raw(pen),
         _ => full(pen),
     }
@@ -72,6 +73,9 @@ fn full(pen: &mut Pen) {
         runs::step_on(pen, Manner::Calm);
     }
     runs::save_and_load(pen);
+    if pen.dice.one_in(2) {
+        runs::load_older(pen);
+    }
     match pen.dice.below(3) {
         0 => {
             pen.say_list("add tri", world.triangles[0]);

@@ -10,8 +10,9 @@
 //! - `records`: what goes into the calls and comes back, [`Answer`] first;
 //! - [`mesh`]: what is lent, the triangle geometry, rows 1 to 9, [`open`];
 //! - [`step`](mod@step): rows 10 to 13, elevation, velocity, [`step()`];
-//! - [`frames`]: digits, fields, check byte, line faults, [`read_forcing`];
-//! - [`saves`]: [`save`] and [`load`];
+//! - [`frames`]: digits, fields, check byte, line faults;
+//! - [`forcings`]: the lines of one forcing, [`read_forcing`];
+//! - [`saves`]: [`save`] and [`load`], of both editions;
 //! - [`grids`]: lines, fields and numbers of a grid text, [`read_grid`];
 //! - [`printing`]: the printing program and example 13 on mesh T;
 //! - [`cases`](mod@cases): inputs on which the printing program is tried;
@@ -24,6 +25,7 @@
 
 pub mod cases;
 pub mod coverage;
+pub mod forcings;
 pub mod frames;
 pub mod generate;
 pub mod grids;
@@ -39,12 +41,12 @@ mod tests;
 
 pub use cases::{cases, Case};
 pub use coverage::coverage;
-pub use frames::read_forcing;
+pub use forcings::read_forcing;
 pub use generate::{generate, Family};
 pub use grids::read_grid;
 pub use mesh::open;
 pub use printing::{example_13, print};
-pub use records::{Answer, Clock, Forcing, Parameters};
+pub use records::{Answer, Clock, Parameters};
 pub use saves::{load, save};
 pub use script::{run, Printed};
 pub use step::step;

@@ -1,8 +1,8 @@
 //! The baseline at the command line.
 //!
 //! - `baseline print` reads standard input and writes what the printing program
-//!   writes: the save after all forcing lines, or one line `refused R at P`.
-//! - `baseline example13` runs example 13 on mesh T and writes 25 lines, which
+//!   writes: the save after all forcings, or one line `refused R at P`.
+//! - `baseline example13` runs example 13 on mesh T and writes 37 lines, which
 //!   [`baseline::example_13`] sets out line by line.
 //! - `baseline cases DIR` writes into a folder, for each input on which the
 //!   printing program is tried, `NAME.in` and what must be printed, `NAME.out`.
@@ -14,7 +14,7 @@
 //!   they reach; the exit status is 1 where something is missed.
 //!
 //! `generate` and `coverage` take the word `grids` before the seed, for the
-//! scripts of grid texts; without it they are those of runs and forcing lines.
+//! scripts of grid texts; without it they are those of runs and forcings.
 
 use baseline::Family;
 use std::env;
@@ -66,8 +66,8 @@ fn print() -> io::Result<ExitCode> {
     written(&baseline::print(&standard_input()?))
 }
 
-/// Writes 12 patterns after the first step (earlier z, z, U, V, each of nodes
-/// 0, 1, 2), 12 after the second, one a line, then the step number.
+/// Writes 18 patterns after the first step (earlier z, z, U, V, Wx, Wy, each of
+/// nodes 0, 1, 2), 18 after the second, one a line, then the step number.
 fn example13() -> io::Result<ExitCode> {
     let text = baseline::example_13()
         .map_err(|answer| io::Error::other(format!("refused {}", answer.number)))?;

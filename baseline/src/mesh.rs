@@ -9,6 +9,9 @@ const MARKS: usize = 4_096;
 /// "Each |a|, |b| is at most 100,000".
 const LONGEST: i64 = 100_000;
 
+/// The state, and the next state: "6N numbers, with Wx and Wy of each node last".
+pub(crate) const STATE_RUNS: usize = 6;
+
 /// A mesh and its parameters as they are lent: "N nodes, E triangles (three
 /// node numbers from 0 each)", "x and y in whole metres (32-bit signed), depth
 /// h, kind 0 (free), 1 (open), 2 (held land)".
@@ -22,11 +25,31 @@ pub(crate) struct Mesh<'a> {
     pub p: Parameters,
 }
 
-/// The length of a slice lent beside the mesh, and how many runs of N numbers
-/// it must hold.
+/// The length of a slice lent beside the mesh, and what it must hold: so many
+/// runs of N numbers, and so many numbers more.
 pub(crate) struct Lent {
-    pub length: usize,
-    pub runs: usize,
+    length: usize,
+    runs: usize,
+    more: usize,
+}
+
+impl Lent {
+    /// A slice of runs of N numbers.
+    pub fn runs(length: usize, runs: usize) -> Lent {
+        let more = 0;
+        Lent { length, runs, more }
+    }
+
+    /// A forcing: the elevation, and two winds at each node.
+    pub fn forcing(length: usize) -> Lent {
+        let (runs, more) = (2, 1);
+        Lent { length, runs, more }
+    }
+
+    fn fits(&self, n: usize) -> bool {
+        let runs = n.checked_mul(self.runs);
+        runs.and_then(|numbers| numbers.checked_add(self.more)) == Some(self.length)
+    }
 }
 
 /// "Corners 1, 2, 3. In whole numbers: a1 = x3-x2, a2 = x1-x3, a3 = x2-x1;
@@ -90,6 +113,13 @@ impl<'a> Mesh<'a> {
         self.corners().map(move |corners| self.triangle(corners))
     }
 
+    /// Request #105: "the sum of all D", each triangle's once; only after rows 1
+    /// to 5 have been tested, so that it is far from the last of 8 bytes.
+    pub fn sum_of_areas(&self) -> u64 {
+        let areas = self.triangles().map(|triangle| triangle.twice_area());
+        areas.map(i64::unsigned_abs).sum()
+    }
+
     /// The three node numbers of each triangle, by ascending triangle number.
     fn corners(self) -> impl Iterator<Item = [usize; 3]> + 'a {
         let (triples, _) = self.tri.as_chunks::<3>();
@@ -133,9 +163,7 @@ impl<'a> Mesh<'a> {
         let per_node = [self.y.len(), self.h.len(), self.kind.len()];
         let whole = self.tri.len().is_multiple_of(3)
             && per_node.iter().all(|&length| length == n)
-            && lent
-                .iter()
-                .all(|slice| n.checked_mul(slice.runs) == Some(slice.length));
+            && lent.iter().all(|slice| slice.fits(n));
         if !whole {
             return Err(Answer::refused(1, 0));
         }
@@ -225,10 +253,7 @@ pub fn open(
     p: Parameters,
 ) -> (Answer, Clock) {
     let mesh = Mesh::lent(x, y, tri, h, kind, p);
-    let lent = [Lent {
-        length: state.len(),
-        runs: 4,
-    }];
+    let lent = [Lent::runs(state.len(), STATE_RUNS)];
     if let Err(refusal) = mesh.begin_opening(&lent) {
         return (refusal, Clock::COLD);
     }

@@ -1,5 +1,5 @@
 //! What goes into the calls and comes back beside the slices: an answer, the
-//! clock, the parameters, a forcing; and when a number is in its range.
+//! clock, the parameters; and when a number is in its range.
 
 /// "Each answer has number, place and value; the value is +0 except at 13, the
 /// place 0 where none is given. An accepted call has number 0 and place 0, but
@@ -29,33 +29,24 @@ impl Answer {
     }
 }
 
-/// "The clock holds the step number (32-bit unsigned) and the present wind Wx,
-/// Wy; the clock goes in and the advanced clock comes back."
+/// "The clock holds the step number (32-bit unsigned)"; "the clock goes in and
+/// the advanced clock comes back." By request #105 "The held wind moves from the
+/// clock to the state".
 #[derive(Clone, Copy, Debug, PartialEq)]
 pub struct Clock {
     /// The step number.
     pub step: u32,
-    /// The present wind Wx (stress over density).
-    pub wx: f64,
-    /// The present wind Wy (stress over density).
-    pub wy: f64,
 }
 
 impl Clock {
     /// "A cold start is all +0, step 0."
-    pub(crate) const COLD: Clock = Clock {
-        step: 0,
-        wx: 0.0,
-        wy: 0.0,
-    };
+    pub(crate) const COLD: Clock = Clock { step: 0 };
 
-    /// "the clock gains one step and holds Wx', Wy'". Row 11 has been tested,
-    /// so that the sum does not wrap.
-    pub(crate) fn advanced(self, forcing: Forcing) -> Clock {
+    /// "the clock gains one step". Row 11 has been tested, so that the sum does
+    /// not wrap.
+    pub(crate) fn advanced(self) -> Clock {
         Clock {
             step: self.step.wrapping_add(1),
-            wx: forcing.wx,
-            wy: forcing.wy,
         }
     }
 }
@@ -75,27 +66,6 @@ pub struct Parameters {
     /// Request #103: "the advective terms of 1.19 and 2.13 under an on/off
     /// parameter".
     pub advection: bool,
-}
-
-/// "A forcing is the new open elevation, then new wind Wx', Wy' (stress over
-/// density)."
-#[derive(Clone, Copy, Debug, PartialEq)]
-pub struct Forcing {
-    /// The new elevation of all open nodes.
-    pub elevation: f64,
-    /// The new wind Wx'.
-    pub wx: f64,
-    /// The new wind Wy'.
-    pub wy: f64,
-}
-
-impl Forcing {
-    /// "a refused one hands back a forcing of three +0".
-    pub(crate) const ZERO: Forcing = Forcing {
-        elevation: 0.0,
-        wx: 0.0,
-        wy: 0.0,
-    };
 }
 
 /// "A range holds only if both comparisons are true, so a NaN is outside."

@@ -4,10 +4,11 @@
 
 pub(crate) mod slices;
 
-use crate::frames::{pattern, read_forcing};
+use crate::forcings::read_forcing;
+use crate::frames::pattern;
 use crate::grids::read_grid;
 use crate::mesh::open;
-use crate::records::{Answer, Clock, Forcing, Parameters};
+use crate::records::{Answer, Clock, Parameters};
 use crate::saves::{load, save};
 use crate::step::step;
 use slices::{Byte, Decimal, Float, Form, Held, Slice, Words};
@@ -90,13 +91,13 @@ pub(crate) struct Script {
     pub next: Held<Float>,
     pub work: Held<Float>,
     pub sums: Held<Decimal<u64>>,
+    pub forcing: Held<Float>,
     pub text: Held<Byte>,
-    pub line: Held<Byte>,
+    pub lines: Held<Byte>,
     pub p: Parameters,
     /// The word of the parameters' setting.
     pub advection: u8,
     pub clock: Clock,
-    pub forcing: Forcing,
     pub printed: Vec<u8>,
 }
 
@@ -128,8 +129,8 @@ pub(crate) fn run_watched(text: &[u8], mut watch: impl FnMut(&Script, Called)) -
 }
 
 impl Script {
-    /// Every slice "empty", "and the parameters, the clock and the forcing, all
-    /// zero at the start (every float +0)".
+    /// Every slice "empty", "and the parameters and the clock, all zero at the
+    /// start (every float +0)".
     pub fn new() -> Script {
         Script {
             x: Held::empty(),
@@ -141,8 +142,9 @@ impl Script {
             next: Held::empty(),
             work: Held::empty(),
             sums: Held::empty(),
+            forcing: Held::empty(),
             text: Held::empty(),
-            line: Held::empty(),
+            lines: Held::empty(),
             p: Parameters {
                 dt: 0.0,
                 tau: 0.0,
@@ -152,7 +154,6 @@ impl Script {
             },
             advection: 0,
             clock: Clock::COLD,
-            forcing: Forcing::ZERO,
             printed: Vec::new(),
         }
     }
@@ -187,8 +188,7 @@ impl Script {
     fn setting(&mut self, command: &[u8], mut words: Words) -> Option<()> {
         match command {
             b"parameters" => (self.p, self.advection) = read_parameters(&mut words)?,
-            b"clock" => self.clock = read_clock(&mut words)?,
-            b"forcing" => self.forcing = read_three(&mut words)?,
+            b"clock" => self.clock.step = words.read::<Decimal<u32>>()?,
             b"swap" => swap(&mut self.state, &mut self.next),
             of_slice => {
                 let slice = self.slice(words.next()?)?;
@@ -210,8 +210,9 @@ impl Script {
             b"next" => &mut self.next,
             b"work" => &mut self.work,
             b"sums" => &mut self.sums,
+            b"forcing" => &mut self.forcing,
             b"text" => &mut self.text,
-            b"line" => &mut self.line,
+            b"lines" => &mut self.lines,
             _ => return None,
         })
     }
@@ -243,8 +244,8 @@ impl Script {
                 self.print_answer(call, answer)
             }
             Call::Read => {
-                let (answer, forcing) = read_forcing(&self.line.0, expected);
-                self.hand_back_forcing(answer, forcing)
+                let answer = self.read(expected);
+                self.print_answer(call, answer)
             }
             Call::Grid => {
                 let answer = self.grid();
@@ -263,17 +264,7 @@ impl Script {
     fn hand_back_clock(&mut self, call: Call, answer: Answer, clock: Clock) -> Answer {
         self.clock = clock;
         self.print_answer(call, answer);
-        let [wx, wy] = [clock.wx, clock.wy].map(word);
-        self.print(format_args!("clock {} {wx} {wy}", clock.step));
-        answer
-    }
-
-    /// "the forcing handed back is the script's forcing from then on".
-    fn hand_back_forcing(&mut self, answer: Answer, forcing: Forcing) -> Answer {
-        self.forcing = forcing;
-        self.print_answer(Call::Read, answer);
-        let [elevation, wx, wy] = [forcing.elevation, forcing.wx, forcing.wy].map(made_word);
-        self.print(format_args!("forcing {elevation} {wx} {wy}"));
+        self.print(format_args!("clock {}", clock.step));
         answer
     }
 
@@ -286,10 +277,10 @@ impl Script {
     fn step(&mut self) -> (Answer, Clock) {
         let (next, work, sums) = (&mut self.next.0, &mut self.work.0, &mut self.sums.0);
         let (x, y, tri) = (&self.x.0, &self.y.0, &self.tri.0);
-        let (state, h, kind) = (&self.state.0, &self.h.0, &self.kind.0);
-        let (p, clock, forcing) = (self.p, self.clock, self.forcing);
+        let (state, forcing) = (&self.state.0, &self.forcing.0);
+        let (h, kind, p, clock) = (&self.h.0, &self.kind.0, self.p, self.clock);
         step(
-            next, work, sums, state, x, y, tri, h, kind, p, clock, forcing,
+            next, work, sums, state, forcing, x, y, tri, h, kind, p, clock,
         )
     }
 
@@ -305,6 +296,11 @@ impl Script {
         let (text, h, kind) = (&self.text.0, &self.h.0, &self.kind.0);
         let state = &mut self.state.0;
         load(state, text, x, y, tri, h, kind, self.p, self.clock)
+    }
+
+    /// "each NaN in it is then `7FF8000000000000`", which it is by the reading.
+    fn read(&mut self, expected: u32) -> Answer {
+        read_forcing(&mut self.forcing.0, &self.lines.0, expected)
     }
 
     fn grid(&mut self) -> Answer {
@@ -384,17 +380,12 @@ fn slice_setting(slice: &mut dyn Slice, command: &[u8], mut words: Words) -> Opt
     words.end()
 }
 
-/// The word of a float, "its own pattern".
-fn word(value: f64) -> String {
-    let mut word = Vec::new();
-    Float::write(value, &mut word);
-    String::from_utf8_lossy(&word).into_owned()
-}
-
 /// The word of a float that a call made: "there every NaN is printed as
 /// `7FF8000000000000`".
 fn made_word(value: f64) -> String {
-    word(f64::from_bits(pattern(value)))
+    let mut word = Vec::new();
+    Float::write(f64::from_bits(pattern(value)), &mut word);
+    String::from_utf8_lossy(&word).into_owned()
 }
 
 /// `parameters DT TAU K F ADVECTION`: "four floats, and an 8-bit unsigned number:
@@ -415,24 +406,6 @@ fn read_parameters(words: &mut Words) -> Option<(Parameters, u8)> {
         advection: byte != 0,
     };
     Some((p, byte))
-}
-
-/// `clock STEP WX WY`: "a 32-bit unsigned number and two floats".
-fn read_clock(words: &mut Words) -> Option<Clock> {
-    Some(Clock {
-        step: words.read::<Decimal<u32>>()?,
-        wx: words.read::<Float>()?,
-        wy: words.read::<Float>()?,
-    })
-}
-
-/// `forcing ELEVATION WX WY`.
-fn read_three(words: &mut Words) -> Option<Forcing> {
-    Some(Forcing {
-        elevation: words.read::<Float>()?,
-        wx: words.read::<Float>()?,
-        wy: words.read::<Float>()?,
-    })
 }
 
 /// The 64-bit FNV-1a hash: each byte is joined by exclusive or before the

@@ -1,8 +1,8 @@
-//! Rows 10 to 13, "Elevation" and "Velocity" with the terms of request #103, and
-//! the step itself.
+//! Rows 10 to 13, "Elevation" and "Velocity" with the terms of request #103 and
+//! the winds of request #105, and the step itself.
 
-use crate::mesh::{Lent, Mesh, Triangle};
-use crate::records::{in_size, Answer, Clock, Forcing, Parameters};
+use crate::mesh::{Lent, Mesh, Triangle, STATE_RUNS};
+use crate::records::{in_size, Answer, Clock, Parameters};
 
 /// "g is the binary64 nearest 9.81".
 const G: f64 = 9.81;
@@ -16,29 +16,78 @@ const SHALLOWEST: f64 = 0.1;
 /// Rows 10 and 13: a velocity is not beyond this in size.
 const FASTEST: f64 = 20.0;
 
-/// Row 12: a wind is not beyond this in size.
+/// Rows 10 and 12: a wind is not beyond this in size.
 const STRONGEST: f64 = 0.1;
 
 /// "kind 0 (free), 1 (open), 2 (held land)".
 const OPEN: u8 = 1;
 const HELD_LAND: u8 = 2;
 
-/// "The state is 4N numbers in four runs of N: earlier elevation, present
-/// elevation z, U, V."
+/// "in four runs of N: earlier elevation, present elevation z, U, V", and by
+/// request #105 "6N numbers, with Wx and Wy of each node last".
 pub(crate) struct State<'a> {
     pub earlier: &'a [f64],
     pub z: &'a [f64],
     pub u: &'a [f64],
     pub v: &'a [f64],
+    pub wx: &'a [f64],
+    pub wy: &'a [f64],
 }
 
 impl<'a> State<'a> {
     pub fn of(numbers: &'a [f64]) -> State<'a> {
-        let n = numbers.len() / 4;
-        let (earlier, rest) = numbers.split_at(n);
-        let (z, rest) = rest.split_at(n);
-        let (u, v) = rest.split_at(n);
-        State { earlier, z, u, v }
+        let n = numbers.len() / STATE_RUNS;
+        let run = |number: usize| &numbers[number * n..(number + 1) * n];
+        State {
+            earlier: run(0),
+            z: run(1),
+            u: run(2),
+            v: run(3),
+            wx: run(4),
+            wy: run(5),
+        }
+    }
+}
+
+/// "A forcing is the new open elevation, then new wind Wx', Wy' (stress over
+/// density)": Wx' of all nodes, then Wy' of all nodes.
+pub(crate) struct Forcing<'a> {
+    pub elevation: f64,
+    pub wx: &'a [f64],
+    pub wy: &'a [f64],
+}
+
+impl<'a> Forcing<'a> {
+    /// The forcing that 1+2N numbers are; only after row 1 has been tested.
+    pub fn of(numbers: &'a [f64]) -> Forcing<'a> {
+        let (wx, wy) = numbers[1..].split_at(numbers.len() / 2);
+        let elevation = numbers[0];
+        Forcing { elevation, wx, wy }
+    }
+}
+
+/// The winds that a step is worked out by, along x and along y.
+#[derive(Clone, Copy)]
+pub(crate) struct Winds<'a> {
+    /// "Jx and Jy use the mean of the three corner winds", by the three of them.
+    pub in_j: fn([f64; 3]) -> f64,
+    /// The runs that these three are of.
+    pub at_corners: [&'a [f64]; 2],
+    /// "velocity uses the node's own": Wx and Wy.
+    pub present: [&'a [f64]; 2],
+    /// The node's own Wx' and Wy'.
+    pub new: [&'a [f64]; 2],
+}
+
+impl<'a> Winds<'a> {
+    pub fn of(state: &State<'a>, forcing: &Forcing<'a>) -> Winds<'a> {
+        let present = [state.wx, state.wy];
+        Winds {
+            in_j: mean,
+            at_corners: present,
+            present,
+            new: [forcing.wx, forcing.wy],
+        }
     }
 }
 
@@ -47,7 +96,8 @@ fn deep_enough(column: f64) -> bool {
     column >= SHALLOWEST
 }
 
-/// 10: "either z beyond 30 in size, present h+z below 0.1, U or V beyond 20".
+/// 10: "either z beyond 30 in size, present h+z below 0.1, U or V beyond 20", and
+/// "the node winds at 0.1, after U and V".
 pub(crate) fn row_10(mesh: &Mesh, state: &State) -> Result<(), Answer> {
     for (node, &h) in mesh.h.iter().enumerate() {
         let z = state.z[node];
@@ -55,7 +105,9 @@ pub(crate) fn row_10(mesh: &Mesh, state: &State) -> Result<(), Answer> {
             && in_size(z, HIGHEST)
             && deep_enough(h + z)
             && in_size(state.u[node], FASTEST)
-            && in_size(state.v[node], FASTEST);
+            && in_size(state.v[node], FASTEST)
+            && in_size(state.wx[node], STRONGEST)
+            && in_size(state.wy[node], STRONGEST);
         if !holds {
             return Err(Answer::refused(10, node));
         }
@@ -71,30 +123,22 @@ fn row_11(clock: Clock) -> Result<(), Answer> {
     Ok(())
 }
 
-/// 12, place 0: "held wind beyond 0.1".
-pub(crate) fn row_12_held_wind(clock: Clock) -> Result<(), Answer> {
-    if !in_size(clock.wx, STRONGEST) || !in_size(clock.wy, STRONGEST) {
-        return Err(Answer::refused(12, 0));
-    }
-    Ok(())
-}
-
-/// 12, places 1 to 3: "forcing elevation beyond 30; Wx', Wy' beyond 0.1".
-fn row_12_forcing(forcing: Forcing) -> Result<(), Answer> {
+/// 12: "forcing elevation beyond 30; Wx', Wy' beyond 0.1", "with place 1 for the
+/// elevation and 2+i for node i".
+pub(crate) fn row_12(forcing: &Forcing) -> Result<(), Answer> {
     if !in_size(forcing.elevation, HIGHEST) {
         return Err(Answer::refused(12, 1));
     }
-    if !in_size(forcing.wx, STRONGEST) {
-        return Err(Answer::refused(12, 2));
-    }
-    if !in_size(forcing.wy, STRONGEST) {
-        return Err(Answer::refused(12, 3));
+    for (node, (&wx, &wy)) in forcing.wx.iter().zip(forcing.wy).enumerate() {
+        if !in_size(wx, STRONGEST) || !in_size(wy, STRONGEST) {
+            return Err(Answer::refused(12, 2 + node));
+        }
     }
     Ok(())
 }
 
 /// "a mean is ((v1+v2)+v3)/3".
-fn mean(v: [f64; 3]) -> f64 {
+pub(crate) fn mean(v: [f64; 3]) -> f64 {
     ((v[0] + v[1]) + v[2]) / 3.0
 }
 
@@ -241,13 +285,15 @@ impl Record {
 /// "corner j receives (Jx·bj + Jy·aj)/2 - ((g·hb)·(Gx·bj + Gy·aj))/(2·D)".
 /// "R of a node starts at +0 and adds its corner values by ascending triangle
 /// number."
-fn add_corner_values(r: &mut [f64], mesh: &Mesh, state: &State, clock: Clock, axes: Axes) {
+fn add_corner_values(r: &mut [f64], mesh: &Mesh, state: &State, winds: &Winds, axes: Axes) {
     r.fill(0.0);
     for triangle in mesh.triangles() {
         let record = Record::of(&triangle, mesh, state);
         let d = triangle.twice_area() as f64;
-        let jx = record.jx(d, mesh.p, clock.wx, axes[0]);
-        let jy = record.jy(d, mesh.p, clock.wy, axes[1]);
+        let wind = |run: &[f64]| (winds.in_j)(triangle.corners.map(|node| run[node]));
+        let [wx, wy] = winds.at_corners.map(wind);
+        let jx = record.jx(d, mesh.p, wx, axes[0]);
+        let jy = record.jy(d, mesh.p, wy, axes[1]);
         let (a, b) = (triangle.a_floats(), triangle.b_floats());
         for j in 0..3 {
             let flux = (jx * b[j] + jy * a[j]) / 2.0;
@@ -277,10 +323,10 @@ fn new_elevation(z: f64, z_star: f64, r: f64, s: f64, p: Parameters) -> f64 {
 
 /// Turns the R of each node into its z': "At kind 1, z' is the forcing's
 /// elevation."
-fn new_elevations(r: &mut [f64], sums: &[u64], mesh: &Mesh, state: &State, forcing: Forcing) {
+fn new_elevations(r: &mut [f64], sums: &[u64], mesh: &Mesh, state: &State, elevation: f64) {
     for (node, place) in r.iter_mut().enumerate() {
         *place = if mesh.kind[node] == OPEN {
-            forcing.elevation
+            elevation
         } else {
             let z = state.z[node];
             let z_star = z - state.earlier[node];
@@ -370,6 +416,10 @@ struct Water {
     py: f64,
     au: f64,
     av: f64,
+    /// Wx and Wy.
+    wind: [f64; 2],
+    /// Wx' and Wy'.
+    new_wind: [f64; 2],
     s: f64,
 }
 
@@ -379,21 +429,14 @@ impl Water {
     /// "Rx = ((m·U + q·V) - gx) + wx, Ry = ((m·V - q·U) - gy) + wy", with
     /// advection "after gx and before wx"; "n = p·p + q·q. U' = (p·Rx + q·Ry)/n,
     /// V' = (p·Ry - q·Rx)/n."
-    fn new_velocity(
-        &self,
-        parameters: Parameters,
-        clock: Clock,
-        forcing: Forcing,
-        axes: Axes,
-    ) -> (f64, f64) {
+    fn new_velocity(&self, parameters: Parameters, axes: Axes) -> (f64, f64) {
         let Parameters { dt, k, f, .. } = parameters;
         let p = 1.0 + (dt * k) / (2.0 * self.new_column);
         let m = 1.0 - (dt * k) / (2.0 * self.column);
         let q = (f * dt) / 2.0;
         let gx = self.slope(dt, self.px);
         let gy = self.slope(dt, self.py);
-        let wx = self.wind(dt, forcing.wx, clock.wx);
-        let wy = self.wind(dt, forcing.wy, clock.wy);
+        let [wx, wy] = [0, 1].map(|axis| self.gust(dt, axis));
         let (ax, ay) = (axes[0], axes[1]);
         let rate_u = (ax.rate)(self.au, dt, self.s);
         let rate_v = (ay.rate)(self.av, dt, self.s);
@@ -409,9 +452,19 @@ impl Water {
     }
 
     /// "wx = (dt·(Wx'/H' + Wx/H))/2, likewise y".
-    fn wind(&self, dt: f64, new: f64, present: f64) -> f64 {
-        (dt * (new / self.new_column + present / self.column)) / 2.0
+    fn gust(&self, dt: f64, axis: usize) -> f64 {
+        let new = self.new_wind[axis] / self.new_column;
+        (dt * (new + self.wind[axis] / self.column)) / 2.0
     }
+}
+
+/// The five runs of the work room.
+fn runs_of(work: &mut [f64], n: usize) -> [&mut [f64]; 5] {
+    let (first, rest) = work.split_at_mut(n);
+    let (second, rest) = rest.split_at_mut(n);
+    let (third, rest) = rest.split_at_mut(n);
+    let (fourth, fifth) = rest.split_at_mut(n);
+    [first, second, third, fourth, fifth]
 }
 
 /// The new values of every node, z' then U' then V', left in the first 3N of the
@@ -421,18 +474,15 @@ pub(crate) fn new_values(
     sums: &mut [u64],
     mesh: &Mesh,
     state: &State,
-    clock: Clock,
-    forcing: Forcing,
+    elevation: f64,
+    winds: &Winds,
     axes: Axes,
 ) -> Result<(), Answer> {
     let n = mesh.nodes();
-    let (first, rest) = work.split_at_mut(n);
-    let (second, rest) = rest.split_at_mut(n);
-    let (third, rest) = rest.split_at_mut(n);
-    let (fourth, fifth) = rest.split_at_mut(n);
+    let [first, second, third, fourth, fifth] = runs_of(work, n);
     add_areas(sums, mesh);
-    add_corner_values(first, mesh, state, clock, axes);
-    new_elevations(first, sums, mesh, state, forcing);
+    add_corner_values(first, mesh, state, winds, axes);
+    new_elevations(first, sums, mesh, state, elevation);
     row_13_elevations(first, mesh)?;
     add_slopes(second, third, first, mesh, state);
     add_advection(fourth, fifth, mesh, state, axes);
@@ -446,13 +496,15 @@ pub(crate) fn new_values(
             py: third[node],
             au: fourth[node],
             av: fifth[node],
+            wind: winds.present.map(|run| run[node]),
+            new_wind: winds.new.map(|run| run[node]),
             s: sums[node] as f64,
         };
         // "At kind 2 both are +0."
         (second[node], third[node]) = if mesh.kind[node] == HELD_LAND {
             (0.0, 0.0)
         } else {
-            water.new_velocity(mesh.p, clock, forcing, axes)
+            water.new_velocity(mesh.p, axes)
         };
     }
     row_13_velocities(second, third)
@@ -460,8 +512,8 @@ pub(crate) fn new_values(
 
 /// Steps a run once: rows 1 to 9 but 6, "10, 11, 12, then 13".
 ///
-/// "The next state is z, z', U', V'; the clock gains one step and holds Wx',
-/// Wy'." "A refusal leaves state, next state, text and clock as found. Work
+/// "The next state is z, z', U', V'", and then Wx', Wy'; "the clock gains one
+/// step". "A refusal leaves state, next state, text and clock as found. Work
 /// room is untouched by every refusal but 13, and all zero after an accepted
 /// step or a 13."
 #[allow(clippy::too_many_arguments)] // each slice is lent by itself
@@ -470,6 +522,7 @@ pub fn step(
     work: &mut [f64],
     sums: &mut [u64],
     state: &[f64],
+    forcing: &[f64],
     x: &[i32],
     y: &[i32],
     tri: &[u16],
@@ -477,45 +530,47 @@ pub fn step(
     kind: &[u8],
     p: Parameters,
     clock: Clock,
-    forcing: Forcing,
 ) -> (Answer, Clock) {
     let mesh = Mesh::lent(x, y, tri, h, kind, p);
-    let lengths = [next.len(), work.len(), sums.len(), state.len()];
-    let state = State::of(state);
-    if let Err(refusal) = rows_1_to_12(&mesh, lengths, &state, clock, forcing) {
+    let lengths = [next.len(), work.len(), sums.len()];
+    if let Err(refusal) = rows_1_to_12(&mesh, lengths, state, forcing, clock) {
         return (refusal, clock);
     }
-    let axes = axes(p.advection);
-    let outcome = new_values(work, sums, &mesh, &state, clock, forcing, axes);
+    let (state, forcing) = (State::of(state), Forcing::of(forcing));
+    let (winds, axes) = (Winds::of(&state, &forcing), axes(p.advection));
+    let elevation = forcing.elevation;
+    let outcome = new_values(work, sums, &mesh, &state, elevation, &winds, axes);
     if outcome.is_ok() {
-        let (earlier, rest) = next.split_at_mut(mesh.nodes());
-        earlier.copy_from_slice(state.z);
-        rest.copy_from_slice(&work[..rest.len()]);
+        let new = &work[..3 * mesh.nodes()];
+        next.copy_from_slice(&[state.z, new, forcing.wx, forcing.wy].concat());
     }
     work.fill(0.0);
     sums.fill(0);
     match outcome {
-        Ok(()) => (Answer::accepted(0), clock.advanced(forcing)),
+        Ok(()) => (Answer::accepted(0), clock.advanced()),
         Err(refusal) => (refusal, clock),
     }
 }
 
 /// All that is tested before a step works anything out. The lengths are those
-/// of the next state, the two work rooms and the state: "The next state goes to
-/// a second lent slice of 4N; work room is 3N binary64 and N 64-bit unsigned",
+/// of the next state and the two work rooms: the next state is "a second lent
+/// slice" as long as the state, "work room is 3N binary64 and N 64-bit unsigned",
 /// and by request #103 "Work room grows by 2N binary64", at either setting.
 fn rows_1_to_12(
     mesh: &Mesh,
-    lengths: [usize; 4],
-    state: &State,
+    [next, work, sums]: [usize; 3],
+    state: &[f64],
+    forcing: &[f64],
     clock: Clock,
-    forcing: Forcing,
 ) -> Result<(), Answer> {
-    let [next, work, sums, present] = lengths;
-    let lent = [(next, 4), (work, 5), (sums, 1), (present, 4)];
-    mesh.begin(&lent.map(|(length, runs)| Lent { length, runs }))?;
-    row_10(mesh, state)?;
+    mesh.begin(&[
+        Lent::runs(next, STATE_RUNS),
+        Lent::runs(work, 5),
+        Lent::runs(sums, 1),
+        Lent::runs(state.len(), STATE_RUNS),
+        Lent::forcing(forcing.len()),
+    ])?;
+    row_10(mesh, &State::of(state))?;
     row_11(clock)?;
-    row_12_held_wind(clock)?;
-    row_12_forcing(forcing)
+    row_12(&Forcing::of(forcing))
 }

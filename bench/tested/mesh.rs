@@ -16,19 +16,20 @@ pub fn within(low: f64, v: f64, high: f64) -> bool {
 /// How row 6 is tested.
 pub type Row6 = fn(&Mesh) -> Result<(), Answer>;
 
-/// Rows 1 to 9 but 6. Each pair is the length of a further slice and its runs of N.
-pub fn rows_1_to_9(mesh: &Mesh, lent: &[(usize, usize)]) -> Result<(), Answer> {
+/// Rows 1 to 9 but 6, and the sum of all D, which they work out on the way. Each pair is the length of a further slice and the one that it must have.
+pub fn rows_1_to_9(mesh: &Mesh, lent: &[(usize, usize)]) -> Result<u64, Answer> {
     rows_with_6(mesh, lent, |_| Ok(()))
 }
 
-/// Rows 1 to 9; the caller says how row 6 is tested.
-pub fn rows_with_6(mesh: &Mesh, lent: &[(usize, usize)], row_6: Row6) -> Result<(), Answer> {
+/// The same with row 6; the caller says how it is tested.
+pub fn rows_with_6(mesh: &Mesh, lent: &[(usize, usize)], row_6: Row6) -> Result<u64, Answer> {
     rows_1_and_2(mesh, lent)?;
-    let marks = triangles(mesh)?;
+    let Triangles { marks, areas } = triangles(mesh)?;
     row_6(mesh)?;
     row_7(mesh, &marks)?;
     row_8(mesh)?;
-    row_9(mesh)
+    row_9(mesh)?;
+    Ok(areas)
 }
 
 fn rows_1_and_2(mesh: &Mesh, lent: &[(usize, usize)]) -> Result<(), Answer> {
@@ -37,7 +38,7 @@ fn rows_1_and_2(mesh: &Mesh, lent: &[(usize, usize)]) -> Result<(), Answer> {
         && mesh.y.len() == n
         && mesh.h.len() == n
         && mesh.kind.len() == n
-        && lent.iter().all(|&(length, runs)| n.checked_mul(runs) == Some(length));
+        && lent.iter().all(|&(length, due)| length == due);
     if !whole {
         return Err(Answer::refused(1, 0));
     }
@@ -47,9 +48,17 @@ fn rows_1_and_2(mesh: &Mesh, lent: &[(usize, usize)]) -> Result<(), Answer> {
     Ok(())
 }
 
-/// Rows 3 to 5, and the marks of row 7, in one pass over the triangles.
-pub fn triangles(mesh: &Mesh) -> Result<[bool; MARKS], Answer> {
-    let mut marks = [false; MARKS];
+/// What a pass over the triangles gives.
+pub struct Triangles {
+    /// of row 7
+    pub marks: [bool; MARKS],
+    /// the sum of all D
+    pub areas: u64,
+}
+
+/// Rows 3 to 5, in one pass over the triangles.
+pub fn triangles(mesh: &Mesh) -> Result<Triangles, Answer> {
+    let (mut marks, mut areas) = ([false; MARKS], 0);
     let n = mesh.nodes().min(MARKS);
     let (x, y) = (&mesh.x[..n], &mesh.y[..n]);
     for (t, [i, j, k]) in mesh.corners().enumerate() {
@@ -64,14 +73,16 @@ pub fn triangles(mesh: &Mesh) -> Result<[bool; MARKS], Answer> {
         if !(near(a1) & near(a2) & near(a3) & near(b1) & near(b2) & near(b3)) {
             return Err(Answer::refused(4, t));
         }
-        if a3 * b2 - a2 * b3 <= 0 {
+        let d = a3 * b2 - a2 * b3;
+        if d <= 0 {
             return Err(Answer::refused(5, t));
         }
+        areas += d as u64;
         marks[i] = true;
         marks[j] = true;
         marks[k] = true;
     }
-    Ok(marks)
+    Ok(Triangles { marks, areas })
 }
 
 fn near(side: i64) -> bool {

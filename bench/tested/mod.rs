@@ -1,11 +1,13 @@
 //! Plain Rust that makes the same refusal tests, without `unsafe`.
 
+pub mod forcings;
 pub mod grids;
+mod lines;
 pub mod mesh;
 pub mod saves;
 pub mod step;
 
-use crate::run::{Answer, Clock, Forcing, GridRooms, Mesh, Program, Rooms};
+use crate::run::{Answer, Clock, GridRooms, Mesh, Program, Rooms};
 
 /// In the forms that one would choose, or in those that are set for the product: row 6 by pairs of triangles, as document 01 has it, and not by the
 /// legs of each node; a grid text read twice, since the product allocates nothing, and not once into rooms of its own.
@@ -25,7 +27,7 @@ impl Program for Tested {
     #[inline(never)]
     fn open(&self, mesh: &Mesh, state: &mut [f64]) -> (Answer, Clock) {
         let row_6 = if self.forms_as_set { mesh::row_6_by_pairs } else { mesh::row_6 };
-        if let Err(refusal) = mesh::rows_with_6(mesh, &[(state.len(), 4)], row_6) {
+        if let Err(refusal) = mesh::rows_with_6(mesh, &[(state.len(), 6 * mesh.nodes())], row_6) {
             return (refusal, Clock::COLD);
         }
         state.fill(0.0);
@@ -33,7 +35,7 @@ impl Program for Tested {
     }
 
     #[inline(never)]
-    fn step(&self, mesh: &Mesh, rooms: Rooms, state: &[f64], clock: Clock, forcing: Forcing) -> (Answer, Clock) {
+    fn step(&self, mesh: &Mesh, rooms: Rooms, state: &[f64], clock: Clock, forcing: &[f64]) -> (Answer, Clock) {
         step::step(mesh, rooms, state, clock, forcing)
     }
 
@@ -47,6 +49,14 @@ impl Program for Tested {
         match saves::load(mesh, state, text) {
             Ok(loaded) => (Answer::accepted(0), loaded),
             Err(refusal) => (refusal, clock),
+        }
+    }
+
+    #[inline(never)]
+    fn read_forcing(&self, forcing: &mut [f64], text: &[u8], expected: u32) -> Answer {
+        match forcings::read(forcing, text, expected) {
+            Ok(()) => Answer::accepted(0),
+            Err(refusal) => refusal,
         }
     }
 

@@ -1,74 +1,82 @@
 //! Rows 10 to 13 and the equations. The parts of a step are functions of their own, so that each can be timed by itself.
 
 use super::mesh::{self, within};
-use crate::formulas::{new_elevation, new_velocity, shares, slope, Corner, Shares, Sides, Sums, Terms, HELD_LAND, OPEN};
+use crate::formulas::{new_elevation, new_velocity, shares, slope, Corner, New, Shares, Sides, Sums, Terms, HELD_LAND, OPEN};
 use crate::run::{Answer, Clock, Forcing, Known, Mesh, Rooms, State};
 
-pub fn step(mesh: &Mesh, rooms: Rooms, state: &[f64], clock: Clock, forcing: Forcing) -> (Answer, Clock) {
+pub fn step(mesh: &Mesh, rooms: Rooms, state: &[f64], clock: Clock, forcing: &[f64]) -> (Answer, Clock) {
     let Rooms { next, work, sums } = rooms;
     if let Err(refusal) = rows_1_to_12(mesh, [next.len(), work.len(), sums.len()], state, clock, forcing) {
         return (refusal, clock);
     }
-    let state = State::of(state, mesh.nodes());
+    let n = mesh.nodes();
+    let (state, new) = (State::of(state, n), Forcing::of(forcing, n));
     // chosen here, once, so that no loop asks for the setting
     let solve = if mesh.p.advection { solve::<true> } else { solve::<false> };
-    let outcome = solve(mesh, work, sums, state, clock, forcing);
+    let outcome = solve(mesh, work, sums, state, new);
     if outcome.is_ok() {
-        publish(next, state, work);
+        publish(next, state, work, &forcing[1..]);
     }
     clear(work, sums);
     match outcome {
-        Ok(()) => (Answer::accepted(0), clock.advanced(forcing)),
+        Ok(()) => (Answer::accepted(0), clock.advanced()),
         Err(refusal) => (refusal, clock),
     }
 }
 
-fn rows_1_to_12(mesh: &Mesh, lengths: [usize; 3], state: &[f64], clock: Clock, forcing: Forcing) -> Result<(), Answer> {
-    let [next, work, sums] = lengths;
-    mesh::rows_1_to_9(mesh, &[(next, 4), (work, 5), (sums, 1), (state.len(), 4)])?;
+fn rows_1_to_12(mesh: &Mesh, lengths: [usize; 3], state: &[f64], clock: Clock, forcing: &[f64]) -> Result<(), Answer> {
+    let (n, [next, work, sums]) = (mesh.nodes(), lengths);
+    mesh::rows_1_to_9(mesh, &[(next, 6 * n), (work, 5 * n), (sums, n), (state.len(), 6 * n), (forcing.len(), 1 + 2 * n)])?;
     row_10(mesh, state)?;
     if clock.step == u32::MAX {
         return Err(Answer::refused(11, 0));
     }
-    held_wind(clock)?;
-    let held = [within(-30.0, forcing.elevation, 30.0), within(-0.1, forcing.wx, 0.1), within(-0.1, forcing.wy, 0.1)];
-    match held.iter().position(|&holds| !holds) {
-        Some(place) => Err(Answer::refused(12, place + 1)),
-        None => Ok(()),
-    }
+    row_12(Forcing::of(forcing, n))
 }
 
-pub fn held_wind(clock: Clock) -> Result<(), Answer> {
-    if within(-0.1, clock.wx, 0.1) & within(-0.1, clock.wy, 0.1) {
+/// Of a wind, in either direction.
+fn calm((&wx, &wy): (&f64, &f64)) -> bool {
+    within(-0.1, wx, 0.1) & within(-0.1, wy, 0.1)
+}
+
+pub fn row_12(forcing: Forcing) -> Result<(), Answer> {
+    if !within(-30.0, forcing.elevation, 30.0) {
+        return Err(Answer::refused(12, 1));
+    }
+    let mut winds = forcing.wx.iter().zip(forcing.wy);
+    if winds.clone().fold(true, |all, wind| all & calm(wind)) {
         return Ok(());
     }
-    Err(Answer::refused(12, 0))
+    let node = winds.position(|wind| !calm(wind));
+    Err(Answer::refused(12, 2 + node.unwrap_or(0)))
 }
 
 pub fn row_10(mesh: &Mesh, state: &[f64]) -> Result<(), Answer> {
     let n = mesh.nodes();
-    let State { earlier, z, u, v } = State::of(state, n);
+    let State { earlier, z, u, v, wx, wy } = State::of(state, n);
     let level = |(&earlier, &z): (&f64, &f64)| within(-30.0, earlier, 30.0) & within(-30.0, z, 30.0);
     let column = |(&h, &z): (&f64, &f64)| 0.1 <= h + z;
     let speed = |(&u, &v): (&f64, &f64)| within(-20.0, u, 20.0) & within(-20.0, v, 20.0);
     let levels = earlier.iter().zip(z);
     let columns = mesh.h.iter().zip(z);
     let speeds = u.iter().zip(v);
+    let winds = wx.iter().zip(wy);
     // two slices at a time, which the compiler takes in wide registers; the place is looked for only where there is one
     let all = levels.clone().fold(true, |all, node| all & level(node))
         & columns.clone().fold(true, |all, node| all & column(node))
-        & speeds.clone().fold(true, |all, node| all & speed(node));
+        & speeds.clone().fold(true, |all, node| all & speed(node))
+        & winds.clone().fold(true, |all, node| all & calm(node));
     if all {
         return Ok(());
     }
-    let mut nodes = levels.zip(columns).zip(speeds);
-    let node = nodes.position(|((levels, columns), speeds)| !(level(levels) & column(columns) & speed(speeds)));
+    let mut nodes = levels.zip(columns).zip(speeds.zip(winds));
+    let node = nodes.position(|((levels, columns), (speeds, winds))| !(level(levels) & column(columns) & speed(speeds) & calm(winds)));
     Err(Answer::refused(10, node.unwrap_or(0)))
 }
 
-fn solve<const ADVECTION: bool>(mesh: &Mesh, work: &mut [f64], sums: &mut [u64], state: State, clock: Clock, forcing: Forcing) -> Result<(), Answer> {
+fn solve<const ADVECTION: bool>(mesh: &Mesh, work: &mut [f64], sums: &mut [u64], state: State, forcing: Forcing) -> Result<(), Answer> {
     let n = mesh.nodes();
-    let terms = Terms::of(mesh.p, clock, forcing);
+    let terms = Terms::of(mesh.p);
     let (first, rest) = work.split_at_mut(n);
     let (second, rest) = rest.split_at_mut(n);
     let (third, rest) = rest.split_at_mut(n);
@@ -77,7 +85,7 @@ fn solve<const ADVECTION: bool>(mesh: &Mesh, work: &mut [f64], sums: &mut [u64],
     raise(mesh, &terms, state, first, sums, forcing.elevation);
     row_13_levels(mesh, first)?;
     slopes(mesh, state, first, second, third);
-    flows::<ADVECTION>(mesh, &terms, state, Known { z_new: first, carried, sums }, second, third);
+    flows::<ADVECTION>(mesh, &terms, state, Known { z_new: first, forcing, carried, sums }, second, third);
     row_13_speeds(second, third)
 }
 
@@ -93,10 +101,11 @@ pub fn gather<const ADVECTION: bool>(mesh: &Mesh, terms: &Terms, state: State, r
     let (x, y, h) = (&mesh.x[..n], &mesh.y[..n], &mesh.h[..n]);
     let (r, carried, sums) = (&mut r[..n], &mut carried[..n], &mut sums[..n]);
     let (earlier, z, u, v) = (&state.earlier[..n], &state.z[..n], &state.u[..n], &state.v[..n]);
+    let (wx, wy) = (&state.wx[..n], &state.wy[..n]);
     for corners in mesh.corners() {
         let sides = Sides::of(corners.map(|i| x[i]), corners.map(|i| y[i]));
         let d = sides.twice_area();
-        let water = corners.map(|i| Corner { h: h[i], earlier: earlier[i], z: z[i], u: u[i], v: v[i] });
+        let water = corners.map(|i| Corner { h: h[i], earlier: earlier[i], z: z[i], u: u[i], v: v[i], wx: wx[i], wy: wy[i] });
         let Shares { r: given, carried: [of_u, of_v] } = shares::<ADVECTION>(terms, water, &sides, d);
         for j in 0..3 {
             r[corners[j]] += given[j];
@@ -160,12 +169,14 @@ pub fn slopes(mesh: &Mesh, state: State, z_new: &[f64], px: &mut [f64], py: &mut
 pub fn flows<const ADVECTION: bool>(mesh: &Mesh, terms: &Terms, state: State, known: Known, px: &mut [f64], py: &mut [f64]) {
     let n = mesh.nodes();
     let (kind, h, px, py) = (&mesh.kind[..n], &mesh.h[..n], &mut px[..n], &mut py[..n]);
-    let (z, u, v) = (&state.z[..n], &state.u[..n], &state.v[..n]);
+    let (z, u, v, wx, wy) = (&state.z[..n], &state.u[..n], &state.v[..n], &state.wx[..n], &state.wy[..n]);
     let (z_new, carried, sums) = (&known.z_new[..n], &known.carried[..n], &known.sums[..n]);
+    let (wx_new, wy_new) = (&known.forcing.wx[..n], &known.forcing.wy[..n]);
     for i in 0..n {
-        let water = Corner { h: h[i], earlier: 0.0, z: z[i], u: u[i], v: v[i] };
+        let water = Corner { h: h[i], earlier: 0.0, z: z[i], u: u[i], v: v[i], wx: wx[i], wy: wy[i] };
+        let new = New { z: z_new[i], wx: wx_new[i], wy: wy_new[i] };
         let gathered = Sums { px: px[i], py: py[i], carried: carried[i], s: sums[i] };
-        let (east, north) = new_velocity::<ADVECTION>(terms, water, z_new[i], gathered);
+        let (east, north) = new_velocity::<ADVECTION>(terms, water, new, gathered);
         let held = kind[i] == HELD_LAND;
         px[i] = if held { 0.0 } else { east };
         py[i] = if held { 0.0 } else { north };
@@ -185,11 +196,14 @@ pub fn row_13_speeds(u_new: &[f64], v_new: &[f64]) -> Result<(), Answer> {
     Ok(())
 }
 
-/// z', U' and V' are the first three runs of the work room.
-pub fn publish(next: &mut [f64], state: State, work: &[f64]) {
-    let (earlier, rest) = next.split_at_mut(state.z.len());
+/// z', U' and V' are the first three runs of the work room; the new winds follow.
+pub fn publish(next: &mut [f64], state: State, work: &[f64], winds: &[f64]) {
+    let n = state.z.len();
+    let (earlier, rest) = next.split_at_mut(n);
+    let (water, air) = rest.split_at_mut(3 * n);
     earlier.copy_from_slice(state.z);
-    rest.copy_from_slice(&work[..rest.len()]);
+    water.copy_from_slice(&work[..3 * n]);
+    air.copy_from_slice(winds);
 }
 
 /// Nothing is known of what was lent, so that the runs of Au and Av are cleared where advection is off too.

@@ -1,14 +1,15 @@
 /*
  * What advection changes in a narrow entrance: `main GRID KINDS LOG OFF ON` opens a mesh twice, with the advective terms off and on, steps both
- * runs through the one log of forcing lines, prints the velocity at the entrance in each, and saves them to the files OFF and ON.
+ * runs through the one forcing log, prints the velocity at the entrance in each, and saves them to the files OFF and ON.
  * Built and run from the repository's root:
  *
  *     rt staticlib capi
  *     tools/x86 cc target/entrance examples/entrance/main.c examples/grids/mesh.c target/staticlib/libcapi.a
  *     tools/x86 run target/entrance examples/grids/harbour.grd examples/grids/harbour.kinds examples/entrance/surge.log target/off target/on
  *
- * It prints what `stdout` beside it begins with. What a call refuses is printed and explained in docs/REFUSALS.md. Exit status: 0 where both
- * runs were saved, 1 where something was refused, 2 where a file cannot be read or written.
+ * It prints what `stdout` beside it begins with. surge.log has lines of kind 10 alone, as logs had before #105: each gives every node the same
+ * wind, here none. Forcings of kinds 14 and 15, with a wind for each node, may stand among them. What a call refuses is printed and explained in
+ * docs/REFUSALS.md. Exit status: 0 where both runs were saved, 1 where something was refused, 2 where a file cannot be read or written.
  */
 #include "../grids/mesh.h"
 #include "surge.h"
@@ -26,20 +27,22 @@ static const double DT = 2.0, TAU = 0.01, K = 0.0025, F = 0.0001;
 /* A line is printed for every so many steps. */
 enum { EVERY = 20 };
 
-struct forcing {
-    double elevation, wx, wy;
+/* A forcing log, and where in it the next forcing begins: its byte, its line, and the number of forcings before it. */
+struct log {
+    const struct text *text;
+    size_t at, line;
+    uint32_t sequence;
 };
 
 /* A run is what its owner holds. The two rooms take turns: a step reads the state and writes the next one. */
 struct run {
     const struct mesh *mesh;
     uint8_t advection;
-    double rooms[2][4 * NODES];
+    double rooms[2][6 * NODES];
     double *state, *next;
     double work[5 * NODES];
     uint64_t sums[NODES];
     uint32_t step;
-    double wx, wy;
 };
 
 /* The mesh and the parameters as each call takes them. */
@@ -61,16 +64,15 @@ static int run_open(struct run *r, const struct mesh *m, uint8_t advection)
     r->advection = advection;
     r->state = r->rooms[0];
     r->next = r->rooms[1];
-    number = surge_open(r->state, 4 * m->nodes, &place, &value, &r->step, &r->wx, &r->wy, RUN(r));
+    number = surge_open(r->state, 6 * m->nodes, &place, &value, &r->step, RUN(r));
     return !refused(r, "surge_open", number, place, value);
 }
 
-static int run_step(struct run *r, const struct forcing *f)
+static int run_step(struct run *r, const double *forcing)
 {
     size_t n = r->mesh->nodes, place;
     double value, *before = r->state;
-    uint32_t number = surge_step(r->next, 4 * n, r->work, 5 * n, r->sums, n, &place, &value, &r->step, &r->wx, &r->wy, r->state, 4 * n, RUN(r),
-                                 f->elevation, f->wx, f->wy);
+    uint32_t number = surge_step(r->next, 6 * n, r->work, 5 * n, r->sums, n, &place, &value, &r->step, r->state, 6 * n, forcing, 1 + 2 * n, RUN(r));
     if (refused(r, "surge_step", number, place, value))
         return 0;
     r->state = r->next;
@@ -92,25 +94,44 @@ static int file_write(const char *name, const uint8_t *text, size_t length)
 /* The exit status: a refusal is 1, and a file that cannot be written 2. */
 static int run_save(const struct run *r, const char *name)
 {
-    static uint8_t text[70 + 73 * NODES];
+    static uint8_t text[127 + 105 * NODES];
     size_t place;
     double value;
-    uint32_t number = surge_save(text, sizeof text, &place, &value, r->state, 4 * r->mesh->nodes, RUN(r), r->step, r->wx, r->wy);
+    uint32_t number = surge_save(text, sizeof text, &place, &value, r->state, 6 * r->mesh->nodes, RUN(r), r->step);
     if (refused(r, "surge_save", number, place, value))
         return 1;
     return file_write(name, text, place) ? 0 : 2;
 }
 
-/* The forcing of the line that begins at `at`, which moves to the next. A line of any length is handed over: the call knows what a line has. */
-static int forcing_next(struct forcing *f, const struct text *log, size_t *at, uint32_t sequence)
+/* The lines of the next forcing: one of kind 10, or one of kind 14 and one of kind 15 for each node. */
+static size_t lines_due(const struct log *log, size_t nodes)
 {
-    const uint8_t *line = log->at + *at, *feed = memchr(line, '\n', log->length - *at);
-    size_t length = feed == NULL ? log->length - *at : (size_t)(feed - line) + 1, place;
+    const uint8_t *kind = log->text->at + log->at;
+    return log->text->length - log->at >= 2 && memcmp(kind, "10", 2) == 0 ? 1 : nodes + 1;
+}
+
+/* The bytes of so many lines, or of all that are left. Lines of any length are taken: the call knows what a line has. */
+static size_t lines_length(const struct log *log, size_t lines)
+{
+    const uint8_t *from = log->text->at + log->at, *end = log->text->at + log->text->length, *to = from;
+    for (; lines > 0 && to < end; lines--) {
+        const uint8_t *feed = memchr(to, '\n', (size_t)(end - to));
+        to = feed == NULL ? end : feed + 1;
+    }
+    return (size_t)(to - from);
+}
+
+/* Reads the next forcing, and goes on to the one after it. A refusal's place is a line of the forcing: the log's own comes before it. */
+static int forcing_next(double *forcing, struct log *log, size_t nodes)
+{
+    size_t lines = lines_due(log, nodes), length = lines_length(log, lines), place;
     double value;
-    uint32_t number = surge_read_forcing(&place, &value, &f->elevation, &f->wx, &f->wy, line, length, sequence);
+    uint32_t number = surge_read_forcing(forcing, 1 + 2 * nodes, &place, &value, log->text->at + log->at, length, log->sequence);
     if (number != 0)
-        printf("log line %" PRIu32 ": refused %" PRIu32 "\n", sequence, number);
-    *at += length;
+        printf("log line %zu: refused %" PRIu32 "\n", log->line + place, number);
+    log->at += length;
+    log->line += lines;
+    log->sequence++;
     return number == 0;
 }
 
@@ -197,18 +218,18 @@ static void print_end(const struct run *off, const struct run *on)
     printf(": U %.3f off, %.3f on; V %.3f off, %.3f on\n", shown(u_of(off, node)), shown(u_of(on, node)), shown(v_of(off, node)), shown(v_of(on, node)));
 }
 
-/* Each line is read once, and both runs take it. */
-static int step_through(struct run *off, struct run *on, const struct text *log)
+/* Each forcing is read once, and both runs take it. Its first number is the elevation of the sea. */
+static int step_through(struct run *off, struct run *on, const struct text *text)
 {
-    size_t node = entrance_of(on->mesh), at = 0;
-    uint32_t sequence;
-    struct forcing f;
+    static double forcing[1 + 2 * NODES];
+    struct log log = {text, 0, 0, 0};
+    size_t node = entrance_of(on->mesh);
     print_heading(on->mesh, node);
-    for (sequence = 0; at < log->length; sequence++) {
-        if (!forcing_next(&f, log, &at, sequence) || !run_step(off, &f) || !run_step(on, &f))
+    while (log.at < text->length) {
+        if (!forcing_next(forcing, &log, on->mesh->nodes) || !run_step(off, forcing) || !run_step(on, forcing))
             return 0;
         if (on->step % EVERY == 0)
-            print_row(off, on, node, f.elevation);
+            print_row(off, on, node, forcing[0]);
     }
     print_end(off, on);
     return 1;

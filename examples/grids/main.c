@@ -21,11 +21,11 @@ const char program[] = "grids";
 /* With a time step of 1 s, tau, K and f 0, and advection off: it is the mesh that is asked about. */
 static int mesh_open(const struct mesh *m)
 {
-    static double state[4 * NODES];
+    static double state[6 * NODES];
     size_t place;
-    double value, wx, wy;
+    double value;
     uint32_t step;
-    uint32_t number = surge_open(state, 4 * m->nodes, &place, &value, &step, &wx, &wy, MESH(m), 1.0, 0.0, 0.0, 0.0, 0);
+    uint32_t number = surge_open(state, 6 * m->nodes, &place, &value, &step, MESH(m), 1.0, 0.0, 0.0, 0.0, 0);
     if (number != 0)
         printf("open: refused %" PRIu32 " at %zu\n", number, place);
     return number == 0;

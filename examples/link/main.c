@@ -1,5 +1,6 @@
 /*
- * The calls of include/surge.h from a C program: mesh T of document 01 is opened, steps once under a wind of 1/64, and its save is printed.
+ * The calls of include/surge.h from a C program: mesh T of document 01 is opened, steps once under a wind of 1/64 at its first node and none at
+ * the others, and its save is printed.
  * Built and run from the repository's root:
  *
  *     rt staticlib capi
@@ -13,7 +14,7 @@
 #include <inttypes.h>
 #include <stdio.h>
 
-enum { N = 3, E = 1, TEXT = 70 + 73 * N };
+enum { N = 3, E = 1, STATE = 6 * N, FORCING = 1 + 2 * N, TEXT = 127 + 105 * N };
 
 /* A run is what its owner holds: the library keeps nothing. */
 struct run {
@@ -23,11 +24,10 @@ struct run {
     uint8_t kind[N];
     double dt, tau, k, f;
     uint8_t advection;
-    double state[4 * N], next[4 * N];
+    double state[STATE], next[STATE];
     double work[5 * N];
     uint64_t sums[N];
     uint32_t step;
-    double wx, wy;
 };
 
 /* The mesh as each call takes it. */
@@ -44,17 +44,16 @@ static int open_run(struct run *r)
 {
     size_t place;
     double value;
-    uint32_t number = surge_open(r->state, 4 * N, &place, &value, &r->step, &r->wx, &r->wy, MESH(r));
+    uint32_t number = surge_open(r->state, STATE, &place, &value, &r->step, MESH(r));
     return !refused("open", number, place, value);
 }
 
-/* One step from `state` to `next`, under a new wind. */
-static int step_run(struct run *r, double wx_new, double wy_new)
+/* One step from `state` to `next`. */
+static int step_run(struct run *r, const double *forcing)
 {
     size_t place;
     double value;
-    uint32_t number = surge_step(r->next, 4 * N, r->work, 5 * N, r->sums, N, &place, &value, &r->step, &r->wx, &r->wy, r->state, 4 * N,
-                                 MESH(r), 0.0, wx_new, wy_new);
+    uint32_t number = surge_step(r->next, STATE, r->work, 5 * N, r->sums, N, &place, &value, &r->step, r->state, STATE, forcing, FORCING, MESH(r));
     return !refused("step", number, place, value);
 }
 
@@ -64,7 +63,7 @@ static int print_save(const struct run *r)
     uint8_t text[TEXT];
     size_t place;
     double value;
-    uint32_t number = surge_save(text, TEXT, &place, &value, r->next, 4 * N, MESH(r), r->step, r->wx, r->wy);
+    uint32_t number = surge_save(text, TEXT, &place, &value, r->next, STATE, MESH(r), r->step);
     if (refused("save", number, place, value))
         return 0;
     return fwrite(text, 1, place, stdout) == place;
@@ -75,5 +74,7 @@ int main(void)
     struct run r = {
         .x = {0, 100, 0}, .y = {0, 0, 100}, .tri = {0, 1, 2}, .h = {8.0, 8.0, 8.0}, .dt = 1.0,
     };
-    return open_run(&r) && step_run(&r, 1.0 / 64, 0.0) && print_save(&r) ? 0 : 1;
+    /* the elevation at open nodes, of which T has none; then Wx' of each node, and Wy' of each node */
+    const double forcing[FORCING] = {0.0, 1.0 / 64, 0.0, 0.0, 0.0, 0.0, 0.0};
+    return open_run(&r) && step_run(&r, forcing) && print_save(&r) ? 0 : 1;
 }

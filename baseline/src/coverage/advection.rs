@@ -3,7 +3,6 @@
 
 use super::conditions::again;
 use super::wanted::{each, of, Reached};
-use crate::records::Clock;
 use crate::script::{Call, Called, Script};
 use crate::step::{axes, Advection, Axes, OFF, ON};
 
@@ -148,17 +147,17 @@ pub(crate) fn patterns(values: &[f64]) -> Vec<u64> {
 }
 
 /// z', U' and V' of a step as these formulas give them, where they accept it.
-fn accepted_by(script: &Script, clock: Clock, axes: Axes) -> Option<Vec<u64>> {
-    let (work, outcome) = again(script, clock, axes);
+fn accepted_by(script: &Script, axes: Axes) -> Option<Vec<u64>> {
+    let (work, outcome) = again(script, axes);
     outcome.ok()?;
     Some(patterns(&work[..3 * script.x.0.len()]))
 }
 
-/// What is said of an accepted step, by the clock that went in.
-pub(crate) fn accepted(script: &Script, clock: Clock) -> Vec<String> {
+/// What is said of an accepted step.
+pub(crate) fn accepted(script: &Script) -> Vec<String> {
     let (n, on) = (script.x.0.len(), script.p.advection);
-    let found = patterns(&script.next.0[n..]);
-    let other = accepted_by(script, clock, axes(!on));
+    let found = patterns(&script.next.0[n..4 * n]);
+    let other = accepted_by(script, axes(!on));
     let tells = other.as_ref() != Some(&found);
     let mut met = Vec::new();
     if tells {
@@ -167,7 +166,7 @@ pub(crate) fn accepted(script: &Script, clock: Clock) -> Vec<String> {
     if on {
         met.push(String::from(if tells { TELLS } else { SILENT }));
         met.extend(other.iter().flat_map(|other| runs(&found, other, n)));
-        met.extend(not_by(script, clock, &found));
+        met.extend(not_by(script, &found));
     }
     met
 }
@@ -181,11 +180,11 @@ fn runs(found: &[u64], other: &[u64], n: usize) -> Vec<String> {
 }
 
 /// The forms that would give a step other bits.
-fn not_by(script: &Script, clock: Clock, found: &[u64]) -> Vec<String> {
+fn not_by(script: &Script, found: &[u64]) -> Vec<String> {
     let mut met = Vec::new();
     for (name, wrong) in &WRONG {
         for (axes, axis) in [[wrong, &ON], [&ON, wrong]].into_iter().zip(AXES) {
-            if accepted_by(script, clock, axes).as_deref() != Some(found) {
+            if accepted_by(script, axes).as_deref() != Some(found) {
                 met.push(format!("{axis} {name}"));
             }
         }
@@ -196,7 +195,7 @@ fn not_by(script: &Script, clock: Clock, found: &[u64]) -> Vec<String> {
 /// What is said of a 13 by a value whose side of its range is known: that with
 /// advection off the step is accepted.
 pub(crate) fn refused(script: &Script, side: &str) -> Option<String> {
-    let off = accepted_by(script, script.clock, axes(false));
+    let off = accepted_by(script, axes(false));
     off.map(|_| format!("{side} by advection"))
 }
 

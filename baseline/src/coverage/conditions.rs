@@ -2,18 +2,23 @@
 //! after it: a refusal leaves everything as found but, at 13, the work room.
 
 use super::advection;
+use super::forcings;
 use super::friction;
 use super::grids;
-use super::layouts::{line_at, Layout, FORCING};
-use super::names::{lent_to, side, LIMITS, PARAMETER_NAMES, RUN_NAMES};
+use super::layouts::Layout;
+use super::names::{lent_to, other_length, side, LIMITS, OTHER_LENGTHS};
+use super::names::{PARAMETER_NAMES, RUN_NAMES};
+use super::texts;
+use super::wanted::{each, of, Reached};
+use super::winds;
 use crate::frames::byte_of;
 use crate::generate::values::{Range, COLUMN, DEPTH, ELEVATION, PARAMETERS, RUNS, VELOCITY, WIND};
 use crate::generate::worlds::legs;
 use crate::mesh::{Mesh, Triangle};
-use crate::records::{Answer, Clock, Parameters};
-use crate::saves::read_lines;
+use crate::records::{Answer, Parameters};
+use crate::saves::{read_lines, save_length};
 use crate::script::{Call, Called, Script};
-use crate::step::{axes, new_values, Axes, State};
+use crate::step::{axes, new_values, row_12, step, Axes, Forcing, State, Winds};
 use std::collections::HashMap;
 
 /// The conditions that a call met.
@@ -22,9 +27,10 @@ pub(crate) fn conditions(script: &Script, called: Called) -> Vec<String> {
     let one = |condition: String| vec![condition];
     match (called.answer.number, called.call) {
         (_, Call::Grid) => grids::conditions(script, called.answer),
-        (0, Call::Read) => accepted_line(script, called.expected),
-        (0, _) => accepted(script, called),
-        (1, call) => one(length(script, call)),
+        (0, Call::Read) => forcings::accepted(script, called.expected),
+        (0, call) => accepted(script, call),
+        (1, Call::Read) => forcings::room(script, called.expected),
+        (1, call) => length(script, call),
         (2, _) => one(count(script)),
         (3, _) => numbers(script, place),
         (4, _) => sides_beyond(script, place),
@@ -34,16 +40,17 @@ pub(crate) fn conditions(script: &Script, called: Called) -> Vec<String> {
         (8, _) => depth_or_kind(script, place),
         (9, _) => parameter(script.p, place),
         (10, call) => node(script, call, place),
-        (12, call) => wind(script, call, place),
+        (11, _) => Vec::from_iter(row_12_too(script)),
+        (12, _) => winds::row_12(script, place),
         (13, _) => outcome(script, place),
-        (20..=23, Call::Load) => one(text_fault(script, called)),
-        (20..=22, _) => one(forcing_fault(script, called)),
+        (_, Call::Load) => texts::refused(script, called),
+        (_, Call::Read) => forcings::refused(script, called),
         (24, _) => one(room(script, place)),
         _ => Vec::new(),
     }
 }
 
-fn mesh(script: &Script) -> Mesh<'_> {
+pub(crate) fn mesh(script: &Script) -> Mesh<'_> {
     let (x, y, tri) = (&script.x.0, &script.y.0, &script.tri.0);
     Mesh::lent(x, y, tri, &script.h.0, &script.kind.0, script.p)
 }
@@ -57,7 +64,8 @@ fn length_of(script: &Script, name: &str) -> usize {
         "state" => script.state.0.len(),
         "next" => script.next.0.len(),
         "work" => script.work.0.len(),
-        _ => script.sums.0.len(),
+        "sums" => script.sums.0.len(),
+        _ => script.forcing.0.len(),
     }
 }
 
@@ -72,29 +80,57 @@ pub(crate) fn difference(length: usize, due: usize) -> &'static str {
 }
 
 /// Row 1, the one slice that is wrong. A wrong x makes N wrong for all others.
-fn length(script: &Script, call: Call) -> String {
+fn length(script: &Script, call: Call) -> Vec<String> {
     let (n, over) = (script.x.0.len(), script.tri.0.len() % 3);
     let lent = lent_to(call);
     let wrong: Vec<_> = lent
         .iter()
-        .filter(|(name, runs)| length_of(script, name) != runs * n)
+        .filter(|(name, runs, more)| length_of(script, name) != runs * n + more)
         .collect();
+    let several = || vec![String::from("several")];
     match wrong.as_slice() {
-        [] => format!("tri {over} over"),
-        _ if over != 0 => String::from("several"),
-        [(name, runs)] => misfit(script, name, runs * n),
-        all if all.len() == lent.len() => format!("x {}", difference(n, script.y.0.len())),
-        _ => String::from("several"),
+        [] => vec![format!("tri {over} over")],
+        _ if over != 0 => several(),
+        [("forcing", runs, more)] => {
+            let mut met = vec![misfit(script, "forcing", runs * n + more)];
+            met.extend(row_behind_the_forcing(script));
+            met
+        }
+        [(name, runs, more)] => vec![misfit(script, name, runs * n + more)],
+        all if all.len() == lent.len() => vec![format!("x {}", difference(n, script.y.0.len()))],
+        _ => several(),
     }
 }
 
 /// How the one slice that is wrong differs.
 fn misfit(script: &Script, name: &str, due: usize) -> String {
+    let (n, length) = (script.x.0.len(), length_of(script, name));
+    let mut others = OTHER_LENGTHS.into_iter();
+    let other =
+        others.find(|&(other, runs, more)| other == name && length == runs * n + more && n > 0);
     let room = match name {
         "work" => advection::room(script),
-        _ => None,
+        _ => other.map(other_length),
     };
-    room.unwrap_or_else(|| format!("{name} {}", difference(length_of(script, name), due)))
+    room.unwrap_or_else(|| format!("{name} {}", difference(length, due)))
+}
+
+/// The rows that a forcing of another length comes before.
+const BEHIND_THE_FORCING: [u32; 3] = [9, 10, 11];
+
+/// The row that refuses the step where its forcing has the right length.
+fn row_behind_the_forcing(script: &Script) -> Option<String> {
+    let n = script.x.0.len();
+    let (mut next, mut work, mut sums) = (vec![0.0; 6 * n], vec![0.0; 5 * n], vec![0; n]);
+    let (state, forcing) = (&script.state.0, vec![0.0; 1 + 2 * n]);
+    let (x, y, tri) = (&script.x.0, &script.y.0, &script.tri.0);
+    let (h, kind, p, clock) = (&script.h.0, &script.kind.0, script.p, script.clock);
+    let (answer, _) = step(
+        &mut next, &mut work, &mut sums, state, &forcing, x, y, tri, h, kind, p, clock,
+    );
+    (1..=12)
+        .contains(&answer.number)
+        .then(|| format!("forcing before {}", answer.number))
 }
 
 /// Row 2.
@@ -181,16 +217,11 @@ fn repeated_legs(script: &Script, place: usize) -> Vec<String> {
 
 /// Row 7.
 fn unnamed(script: &Script, place: usize) -> String {
-    let last = script.x.0.len() - 1;
-    String::from(match place {
-        0 => "first node",
-        _ if place == last => "last node",
-        _ => "node between",
-    })
+    String::from(winds::which(place, script.x.0.len()))
 }
 
 /// A value's name and the side of its range it is beyond.
-fn beyond(name: &str, value: f64, range: Range) -> Option<String> {
+pub(crate) fn beyond(name: &str, value: f64, range: Range) -> Option<String> {
     side(value, range).map(|side| format!("{name} {side}"))
 }
 
@@ -215,26 +246,79 @@ fn parameter(p: Parameters, place: usize) -> Vec<String> {
     beyond(name, value, PARAMETERS[place]).into_iter().collect()
 }
 
-/// Row 10, where one condition alone is met: a z beyond its size may leave too
-/// little water as well.
+/// Row 10 of a step or a save, or of the values that a load would have given, with
+/// the edition of its text.
 fn node(script: &Script, call: Call, place: usize) -> Vec<String> {
-    let loaded = read_lines(&script.text.0, &mesh(script)).map(|(numbers, _)| numbers);
-    let numbers = match (call, &loaded) {
-        (Call::Load, Ok(numbers)) => numbers,
-        _ => &script.state.0,
-    };
+    if call == Call::Load {
+        let loaded = read_lines(&script.text.0, &mesh(script));
+        let (numbers, _) = loaded.unwrap_or((script.state.0.clone(), script.clock));
+        let (edition, met) = (texts::edition_of(script), at_node(script, &numbers, place));
+        return met
+            .map(|met| format!("{edition} {met}"))
+            .into_iter()
+            .collect();
+    }
+    let mut met = Vec::from_iter(at_node(script, &script.state.0, place));
+    met.extend(wind_first(script, place));
+    if call == Call::Save {
+        let short = script.text.0.len() < save_length(script.x.0.len());
+        met.extend(short.then(|| String::from("24 too")));
+    } else {
+        let last = script.clock.step == u32::MAX;
+        met.extend(last.then(|| String::from("11 too")));
+        met.extend(row_12_too(script));
+    }
+    met
+}
+
+/// The one condition of row 10 that a node meets: a z beyond its size may leave too
+/// little water as well.
+fn at_node(script: &Script, numbers: &[f64], place: usize) -> Option<String> {
     let n = script.x.0.len();
     let value = |run: usize| numbers[run * n + place];
-    let mut met: Vec<String> = (0..4)
+    let mut met: Vec<String> = (0..RUNS.len())
         .filter_map(|run| beyond(RUN_NAMES[run], value(run), RUNS[run]))
         .collect();
     if side(value(1), ELEVATION).is_none() {
         met.extend(short_of_water("h+z", script.h.0[place] + value(1)));
     }
-    if met.len() > 1 {
-        met = vec![String::from("several")];
+    match met.len() {
+        0 | 1 => met.pop(),
+        _ => Some(String::from("several")),
     }
-    met
+}
+
+/// What is said of a wind that is beyond at a node before one whose water is: rows
+/// that went run by run would have answered the later.
+const WIND_FIRST: &str = "a wind before a later node's water";
+
+fn wind_first(script: &Script, place: usize) -> Option<String> {
+    let (n, state) = (script.x.0.len(), &script.state.0);
+    let is_beyond = |run: usize, node: usize| side(state[run * n + node], RUNS[run]).is_some();
+    let wind_alone = (0..4).all(|run| !is_beyond(run, place));
+    let later = (place + 1..n).any(|node| (0..4).any(|run| is_beyond(run, node)));
+    (wind_alone && later).then(|| String::from(WIND_FIRST))
+}
+
+/// Whether row 12 would refuse the step as well.
+fn row_12_too(script: &Script) -> Option<String> {
+    let refused = row_12(&Forcing::of(&script.forcing.0)).is_err();
+    refused.then(|| String::from("12 too"))
+}
+
+/// All of row 10, and of the rows that it comes before.
+pub(crate) fn all_behind() -> Vec<Reached> {
+    let mut all = Vec::new();
+    for call in [Call::Step, Call::Save] {
+        all.extend(of(call, 10, &[WIND_FIRST]));
+    }
+    all.extend(of(Call::Step, 10, &["11 too", "12 too"]));
+    all.extend(of(Call::Step, 11, &["12 too"]));
+    all.extend(of(Call::Save, 10, &["24 too"]));
+    let rows = BEHIND_THE_FORCING.map(|row| row.to_string());
+    let rows = rows.each_ref().map(String::as_str);
+    all.extend(each(Call::Step, 1, &["forcing before"], &rows));
+    all
 }
 
 /// "below 0.1", by one bit of z or by more.
@@ -249,36 +333,24 @@ fn short_of_water(name: &str, column: f64) -> Option<String> {
     (column < COLUMN).then(|| format!("{name} {by}"))
 }
 
-/// The held wind of a clock, beyond its size.
-fn held_wind(clock: Clock) -> Vec<String> {
-    let winds = [("held Wx", clock.wx), ("held Wy", clock.wy)];
-    let beyond = |(name, wind)| beyond(name, wind, WIND);
-    winds.into_iter().filter_map(beyond).collect()
-}
-
-/// Row 12.
-fn wind(script: &Script, call: Call, place: usize) -> Vec<String> {
-    let forcing = script.forcing;
-    let (name, value, range) = match (place, call) {
-        (0, Call::Load) => {
-            let read = read_lines(&script.text.0, &mesh(script));
-            return read.map_or(Vec::new(), |(_, clock)| held_wind(clock));
-        }
-        (0, _) => return held_wind(script.clock),
-        (1, _) => ("elevation", forcing.elevation, ELEVATION),
-        (2, _) => ("Wx'", forcing.wx, WIND),
-        _ => ("Wy'", forcing.wy, WIND),
-    };
-    beyond(name, value, range).into_iter().collect()
-}
-
 /// The new values of a step, worked out once more by any formulas.
-pub(crate) fn again(script: &Script, clock: Clock, axes: Axes) -> (Vec<f64>, Result<(), Answer>) {
+pub(crate) fn again(script: &Script, axes: Axes) -> (Vec<f64>, Result<(), Answer>) {
+    let state = State::of(&script.state.0);
+    let winds = Winds::of(&state, &Forcing::of(&script.forcing.0));
+    again_by(script, &winds, axes)
+}
+
+/// The new values of a step, by any winds as well.
+pub(crate) fn again_by(
+    script: &Script,
+    winds: &Winds,
+    axes: Axes,
+) -> (Vec<f64>, Result<(), Answer>) {
     let n = script.x.0.len();
     let (mut work, mut sums) = (vec![0.0; 5 * n], vec![0; n]);
     let (mesh, state) = (mesh(script), State::of(&script.state.0));
-    let forcing = script.forcing;
-    let outcome = new_values(&mut work, &mut sums, &mesh, &state, clock, forcing, axes);
+    let elevation = script.forcing.0[0];
+    let outcome = new_values(&mut work, &mut sums, &mesh, &state, elevation, winds, axes);
     (work, outcome)
 }
 
@@ -287,7 +359,7 @@ pub(crate) fn again(script: &Script, clock: Clock, axes: Axes) -> (Vec<f64>, Res
 fn outcome(script: &Script, place: usize) -> Vec<String> {
     let n = script.x.0.len();
     // The refusal is known: the call has answered it.
-    let (work, _) = again(script, script.clock, axes(script.p.advection));
+    let (work, _) = again(script, axes(script.p.advection));
     // The runs after z' hold velocities only where every elevation passed.
     let all_pass = (0..n).all(|node| {
         side(work[node], ELEVATION).is_none() && script.h.0[node] + work[node] >= COLUMN
@@ -308,23 +380,33 @@ fn outcome(script: &Script, place: usize) -> Vec<String> {
     all
 }
 
+/// The faults of row 20 that a line of any kind has. A line that is too long has no
+/// line feed where it is due.
+pub(crate) const LINE_FAULTS: [&str; 5] = [
+    "missing",
+    "too short",
+    "no line feed",
+    "line feed too early",
+    "wrong digit",
+];
+
 /// What is wrong with a line of the kind that is due, by row 20.
-fn line_fault(line: &[u8], layout: &Layout) -> &'static str {
+pub(crate) fn line_fault(line: &[u8], layout: &Layout) -> &'static str {
     let due = layout.length();
     let digits = line.split_last().map_or(line, |(_, digits)| digits);
     let wrong = digits.iter().find(|byte| !byte.is_ascii_hexdigit());
     match wrong {
-        _ if line.is_empty() => "missing",
-        _ if line.len() < due => "too short",
+        _ if line.is_empty() => LINE_FAULTS[0],
+        _ if line.len() < due => LINE_FAULTS[1],
         _ if line.len() > due => "too long",
-        _ if line.last() != Some(&b'\n') => "no line feed",
-        Some(b'\n') => "line feed too early",
-        _ => "wrong digit",
+        _ if line.last() != Some(&b'\n') => LINE_FAULTS[2],
+        Some(b'\n') => LINE_FAULTS[3],
+        _ => LINE_FAULTS[4],
     }
 }
 
 /// Row 22: the kind or, where that is right, the sequence.
-fn beginning_fault(line: &[u8], layout: &Layout) -> &'static str {
+pub(crate) fn beginning_fault(line: &[u8], layout: &Layout) -> &'static str {
     let first = line.first_chunk().and_then(|&pair| byte_of(pair));
     if first == Some(layout.kind) {
         "sequence"
@@ -333,65 +415,13 @@ fn beginning_fault(line: &[u8], layout: &Layout) -> &'static str {
     }
 }
 
-/// Rows 20 to 23 of a load: every line before the place is right.
-fn text_fault(script: &Script, called: Called) -> String {
-    let (n, place) = (script.x.0.len(), called.answer.place);
-    if place == n + 2 {
-        return String::from("trailing");
-    }
-    let (layout, line) = line_at(&script.text.0, n, place);
-    let name = layout.name;
-    match called.answer.number {
-        20 => format!("{name} {}", line_fault(line, layout)),
-        21 => String::from(name),
-        22 => format!("{name} {}", beginning_fault(line, layout)),
-        _ => format!("{name} {}", differing_count(line, n)),
-    }
-}
-
-/// Row 23: N or, where that is right, E.
-fn differing_count(line: &[u8], n: usize) -> &'static str {
-    let digits = line.get(6..10).unwrap_or(&[]);
-    if digits.eq_ignore_ascii_case(format!("{n:04X}").as_bytes()) {
-        "E"
-    } else {
-        "N"
-    }
-}
-
-/// Rows 20 to 22 of a forcing line.
-fn forcing_fault(script: &Script, called: Called) -> String {
-    let line = &script.line.0;
-    String::from(match called.answer.number {
-        20 => line_fault(line, &FORCING),
-        21 => "check byte",
-        _ if called.expected > 65_535 => "expected above 65,535",
-        _ => beginning_fault(line, &FORCING),
-    })
-}
-
 /// Row 24.
 fn room(script: &Script, needed: usize) -> String {
     String::from(difference(script.text.0.len(), needed))
 }
 
-/// What an accepted line had.
-fn accepted_line(script: &Script, expected: u32) -> Vec<String> {
-    let forcing = script.forcing;
-    let numbers = [forcing.elevation, forcing.wx, forcing.wy];
-    let mut met = Vec::new();
-    if numbers.iter().any(|number| number.is_nan()) {
-        met.push(String::from("a NaN"));
-    }
-    if let 0 | 65_535 = expected {
-        met.push(format!("sequence {expected}"));
-    }
-    met
-}
-
 /// The limits that an accepted call on a run stood at.
-fn accepted(script: &Script, called: Called) -> Vec<String> {
-    let call = called.call;
+fn accepted(script: &Script, call: Call) -> Vec<String> {
     let mut met = sizes(script);
     if call != Call::Open && has_leg_twice(script) {
         met.push(String::from("a leg twice"));
@@ -400,17 +430,21 @@ fn accepted(script: &Script, called: Called) -> Vec<String> {
         Call::Step => {
             met.extend(step_limits(script));
             met.extend(friction::accepted(script));
-            met.extend(advection::accepted(script, called.clock));
+            met.extend(advection::accepted(script));
+            met.extend(winds::accepted(script));
         }
-        Call::Save => met.push(spare_room(script)),
-        Call::Load if script.clock.step == u32::MAX => met.push(String::from("last step")),
+        Call::Save => {
+            met.push(spare_room(script));
+            met.extend(winds::held(&script.state.0, ["Wx", "Wy"]));
+        }
+        Call::Load => met.extend(texts::accepted(script)),
         _ => (),
     }
     met
 }
 
 /// N and E at the ends of row 2's ranges.
-fn sizes(script: &Script) -> Vec<String> {
+pub(crate) fn sizes(script: &Script) -> Vec<String> {
     let (n, e) = (script.x.0.len(), script.tri.0.len() / 3);
     let mut met = Vec::new();
     if let 3 | 4_096 = n {
@@ -433,7 +467,7 @@ fn has_leg_twice(script: &Script) -> bool {
 }
 
 fn spare_room(script: &Script) -> String {
-    let needed = 70 + 73 * script.x.0.len();
+    let needed = save_length(script.x.0.len());
     String::from(if script.text.0.len() == needed {
         "room just enough"
     } else {
@@ -455,14 +489,15 @@ fn step_limits(script: &Script) -> Vec<String> {
     for (place, value) in numbers_of(script.p).into_iter().enumerate() {
         look(PARAMETER_NAMES[place], &[value], PARAMETERS[place]);
     }
-    let (n, state, forcing) = (script.x.0.len(), &script.state.0, script.forcing);
+    let (n, state) = (script.x.0.len(), &script.state.0);
+    let forcing = Forcing::of(&script.forcing.0);
     for (run, numbers) in state.chunks(n).enumerate() {
         look(RUN_NAMES[run], numbers, RUNS[run]);
     }
     look("h", &script.h.0, DEPTH);
     look("elevation", &[forcing.elevation], ELEVATION);
-    look("Wx'", &[forcing.wx], WIND);
-    look("Wy'", &[forcing.wy], WIND);
+    look("Wx'", forcing.wx, WIND);
+    look("Wy'", forcing.wy, WIND);
     let columns = script.h.0.iter().zip(&state[n..]).map(|(h, z)| h + z);
     if columns.into_iter().any(|column| column < COLUMN + 1e-14) {
         met.push(String::from("h+z just enough"));

@@ -5,27 +5,50 @@ use crate::generate::values::Range;
 use crate::script::Call;
 
 /// The names of the numbers in a state's runs.
-pub(crate) const RUN_NAMES: [&str; 4] = ["earlier z", "z", "U", "V"];
+pub(crate) const RUN_NAMES: [&str; 6] = ["earlier z", "z", "U", "V", "Wx", "Wy"];
 
 /// The names of the parameters.
 pub(crate) const PARAMETER_NAMES: [&str; 4] = ["dt", "tau", "K", "f"];
 
-/// The slices of row 1 beside x and the triangles, and their runs of N.
-const LENGTHS: [(&str, usize); 7] = [
-    ("y", 1),
-    ("h", 1),
-    ("kind", 1),
-    ("state", 4),
-    ("next", 4),
-    ("work", 5),
-    ("sums", 1),
+/// A slice of row 1: its name, its runs of N numbers, and its numbers more.
+pub(crate) type Length = (&'static str, usize, usize);
+
+/// The slices of row 1 beside x and the triangles.
+const LENGTHS: [Length; 8] = [
+    ("y", 1, 0),
+    ("h", 1, 0),
+    ("kind", 1, 0),
+    ("state", 6, 0),
+    ("next", 6, 0),
+    ("work", 5, 0),
+    ("sums", 1, 0),
+    ("forcing", 2, 1),
 ];
 
 /// The slices of row 1 that a call is lent, beside x and the triangles.
-pub(crate) fn lent_to(call: Call) -> &'static [(&'static str, usize)] {
+pub(crate) fn lent_to(call: Call) -> &'static [Length] {
     match call {
         Call::Step => &LENGTHS,
         _ => &LENGTHS[..4],
+    }
+}
+
+/// Lengths by runs and numbers more that slices had before a request, or that a
+/// misreading would give them: row 1 refuses them.
+pub(crate) const OTHER_LENGTHS: [Length; 5] = [
+    ("state", 4, 0),
+    ("next", 4, 0),
+    ("forcing", 0, 3),
+    ("forcing", 1, 1),
+    ("forcing", 3, 0),
+];
+
+/// What is said of a slice of one of these lengths.
+pub(crate) fn other_length((name, runs, more): Length) -> String {
+    match (runs, more) {
+        (0, _) => format!("{name} of {more}"),
+        (_, 0) => format!("{name} of {runs}N"),
+        _ => format!("{name} of {more}+{runs}N"),
     }
 }
 

@@ -16,9 +16,9 @@ fn rows(call: Call) -> &'static [u32] {
     match call {
         Call::Open => &[1, 2, 3, 4, 5, 6, 7, 8, 9],
         Call::Step => &[1, 2, 3, 4, 5, 7, 8, 9, 10, 11, 12, 13],
-        Call::Save => &[1, 2, 3, 4, 5, 7, 8, 9, 10, 12, 24],
-        Call::Load => &[1, 2, 3, 4, 5, 7, 8, 9, 10, 12, 20, 21, 22, 23],
-        Call::Read => &[],
+        Call::Save => &[1, 2, 3, 4, 5, 7, 8, 9, 10, 24],
+        Call::Load => &[1, 2, 3, 4, 5, 7, 8, 9, 10, 20, 21, 22, 23, 25],
+        Call::Read => &[1, 20, 21, 22],
         Call::Grid => &[30, 31, 32, 33],
     }
 }
@@ -28,14 +28,15 @@ fn rows(call: Call) -> &'static [u32] {
 fn places(call: Call, row: u32) -> Vec<&'static str> {
     let mut places = match (call, row) {
         (Call::Open, 1..=9) | (Call::Save, 1..=10) => vec!["state"],
-        (Call::Load, 1..) => vec!["state", "clock"],
-        (Call::Step, 1..=10) => vec!["state", "next", "work", "clock"],
-        (Call::Step, 11 | 12) => vec!["next", "work", "clock"],
+        (Call::Load, 1..) => vec!["state"],
+        (Call::Step, 1..=10) => vec!["state", "next", "work", "forcing"],
+        (Call::Step, 11 | 12) => vec!["next", "work", "forcing"],
         (Call::Step, 13) => vec!["next"],
+        (Call::Read, 1..) => vec!["forcing"],
         (Call::Grid, 30..) => vec!["h"],
         _ => Vec::new(),
     };
-    if (1..=8).contains(&row) {
+    if call != Call::Read && (1..=8).contains(&row) {
         places.push("h");
     }
     places
@@ -54,7 +55,7 @@ pub(crate) fn kept(script: &Script, called: Called) -> Vec<String> {
             "next" => &script.next.0,
             "work" => &script.work.0,
             "h" => &script.h.0,
-            _ => &vec![script.clock.wx, script.clock.wy],
+            _ => &script.forcing.0,
         };
         for sort in SORTS {
             if floats.iter().any(|&float| sort_of(float) == Some(sort)) {

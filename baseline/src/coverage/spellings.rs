@@ -5,9 +5,13 @@
 mod misreadings;
 
 use super::advection::patterns;
-use super::layouts::{line_at, lines_of, Layout, END, FORCING, HEAD, NODE};
+use super::forcings::nodes_of;
+use super::layouts::{of_forcing, of_save, Line};
+use super::layouts::{END_1, END_2, HEAD_1, HEAD_2, NODE_1, NODE_2, SETTING};
+use super::layouts::{KIND_10, KIND_14, KIND_15};
 use super::wanted::{each, of, Reached};
-use crate::records::{Clock, Forcing};
+use crate::records::Clock;
+use crate::saves::Edition;
 use crate::script::{Call, Called, Script};
 use misreadings::{not_by, OF_DIGITS, OF_NO_DIGITS};
 
@@ -46,9 +50,9 @@ const FIRST_BYTE: &str = "first byte of a sequence in lower case";
 /// A line or a text that was accepted in another spelling just before.
 const AGAIN: &str = "in a second spelling";
 
-/// A step on from a text, and one by a line, that had lower-case letters.
+/// A step on from a text, and one by lines, that had lower-case letters.
 const ON_FROM: &str = "on from a text with lower case";
-const BY: &str = "by a line with lower case";
+const BY: &str = "by lines with lower case";
 
 /// A save of what was loaded from a text that had lower-case letters, which
 /// gives that text in upper case.
@@ -83,21 +87,22 @@ fn has_upper(digits: &[u8]) -> bool {
     digits.iter().any(|&digit| is_upper(digit))
 }
 
-/// A line of a known kind.
-type Line<'a> = (&'static Layout, &'a [u8]);
-
 /// What is said of the spelling of what a call wrote, read or refused.
 pub(crate) fn conditions(script: &Script, called: Called) -> Vec<String> {
     let (n, place) = (script.x.0.len(), called.answer.place);
-    let (text, line) = (&script.text.0, (&FORCING, &script.line.0[..]));
+    let text = &script.text.0;
+    let of_text = || of_save(text, n);
+    let of_lines = || of_forcing(&script.lines.0, nodes_of(script));
     let mut met = match (called.call, called.answer.number) {
-        (Call::Save, 0) => return strings(&spelling(&lines_of(&text[..place], n))),
-        (Call::Load, 0) => accepted_text(&lines_of(text, n)),
-        (Call::Load, number @ 20..=23) if place < n + 2 => refused(line_at(text, n, place), number),
-        (Call::Load, 12) => return refused(line_at(text, n, 0), 12),
-        (Call::Load, 10) => return refused(line_at(text, n, place + 1), 10),
-        (Call::Read, 0) => accepted_line(line),
-        (Call::Read, number) => refused(line, number),
+        (Call::Save, 0) => return strings(&spelling(&of_save(&text[..place], n))),
+        (Call::Load, 0) => accepted_lines(&of_text()),
+        (Call::Load, number @ 20..=25) => refused(of_text().get(place), number),
+        // An edition 1 text may have been refused for its head's wind.
+        (Call::Load, 10) if Edition::of(text) == Edition::Two => {
+            return refused(of_text().get(place + 2), 10)
+        }
+        (Call::Read, 0) => accepted_lines(&of_lines()),
+        (Call::Read, number @ 20..) => refused(of_lines().get(place), number),
         _ => return Vec::new(),
     };
     met.extend(not_by(script, called));
@@ -165,13 +170,7 @@ fn fields((layout, line): Line) -> Vec<&'static str> {
     fields.into_iter().map(|(name, _)| name).collect()
 }
 
-fn accepted_line(line: Line) -> Vec<String> {
-    let mut met = strings(&spelling(&[line]));
-    met.extend(fields(line).iter().map(|name| format!("{name} {LOWER}")));
-    met
-}
-
-fn accepted_text(lines: &[Line]) -> Vec<String> {
+fn accepted_lines(lines: &[Line]) -> Vec<String> {
     let mut met = strings(&spelling(lines));
     for &line in lines {
         let name = line.0.name;
@@ -190,9 +189,13 @@ fn looked_at(number: u32) -> &'static [&'static str] {
     }
 }
 
-/// What is said of the line that a row refuses, or whose numbers it refuses.
-fn refused(line: Line, number: u32) -> Vec<String> {
+/// What is said of the line that a row refuses, or whose numbers it refuses; bytes
+/// after the last are none.
+fn refused(line: Option<&Line>, number: u32) -> Vec<String> {
     let mut met = Vec::new();
+    let Some(&line) = line else {
+        return met;
+    };
     if has_lower(line.1) {
         met.push(String::from(REFUSED));
     }
@@ -214,22 +217,14 @@ fn neighbour((layout, line): Line) -> Option<&'static str> {
     (line.len() == layout.length()).then_some(name)
 }
 
-fn of_forcing(forcing: Forcing) -> [u64; 3] {
-    [forcing.elevation, forcing.wx, forcing.wy].map(f64::to_bits)
-}
-
-fn of_clock(clock: Clock) -> [u64; 3] {
-    [clock.step.into(), clock.wx.to_bits(), clock.wy.to_bits()]
-}
-
-/// The latest accepted line and text, and what they gave.
+/// The latest accepted lines and text, and what they gave.
 #[derive(Default)]
 pub(crate) struct Latest {
-    line: Vec<u8>,
-    forcing: [u64; 3],
+    lines: Vec<u8>,
+    forcing: Vec<u64>,
     text: Vec<u8>,
     state: Vec<u64>,
-    clock: [u64; 3],
+    step: u32,
 }
 
 /// Takes what was read, and tells whether it is the same as before in another
@@ -247,22 +242,20 @@ impl Latest {
         let mut met = Vec::new();
         match (called.call, called.answer.number) {
             (Call::Read, 0) => {
-                if take(&mut self.line, &script.line.0) {
+                if take(&mut self.lines, &script.lines.0) {
                     met.push(AGAIN);
                 }
-                self.forcing = of_forcing(script.forcing);
+                self.forcing = patterns(&script.forcing.0);
             }
             (Call::Load, 0) => {
                 if take(&mut self.text, &script.text.0) {
                     met.push(AGAIN);
                 }
                 self.state = patterns(&script.state.0);
-                self.clock = of_clock(script.clock);
+                self.step = script.clock.step;
             }
-            (Call::Step, number @ (0 | 12)) => {
-                // 12 at place 0 is of the held wind.
-                let looked_at = number == 0 || called.answer.place > 0;
-                if looked_at && self.is_read(script.forcing) {
+            (Call::Step, 0 | 12) => {
+                if self.is_read(&script.forcing.0) {
                     met.push(BY);
                 }
                 if self.is_loaded(script, called.clock) {
@@ -280,16 +273,14 @@ impl Latest {
         strings(&met)
     }
 
-    /// Whether a forcing is what was read from a line with lower case.
-    fn is_read(&self, forcing: Forcing) -> bool {
-        has_lower(&self.line) && self.forcing == of_forcing(forcing)
+    /// Whether a forcing is what was read from lines with lower case.
+    fn is_read(&self, forcing: &[f64]) -> bool {
+        has_lower(&self.lines) && self.forcing == patterns(forcing)
     }
 
     /// Whether a call is lent what was loaded from a text with lower case.
     fn is_loaded(&self, script: &Script, clock: Clock) -> bool {
-        has_lower(&self.text)
-            && self.clock == of_clock(clock)
-            && self.state == patterns(&script.state.0)
+        has_lower(&self.text) && self.step == clock.step && self.state == patterns(&script.state.0)
     }
 }
 
@@ -314,20 +305,37 @@ pub(crate) fn all_conditions() -> Vec<Reached> {
         }
         all.extend(each(call, 22, looked_at(22), &[LOWER]));
     }
-    all.extend(each(Call::Read, 0, &FORCING.names()[1..], &[LOWER]));
-    // The kind has no letter, nor has the head's sequence.
-    for (layout, first) in [(HEAD, 2), (NODE, 1), (END, 1)] {
-        for field in &layout.names()[first..] {
-            let name = format!("{} {field}", layout.name);
-            all.extend(each(Call::Load, 0, &[&name], &[LOWER]));
-        }
-    }
+    all.extend(all_fields());
     all.extend(each(Call::Load, 23, looked_at(23), &[LOWER]));
-    for number in [23, 12, 10] {
+    for number in [23, 25, 10] {
         all.extend(of(Call::Load, number, &[REFUSED]));
     }
     all.extend(of(Call::Save, 0, &[CASES[0], WRITTEN]));
     all.extend(of(Call::Step, 0, &[ON_FROM, BY]));
     all.extend(of(Call::Step, 12, &[BY]));
+    all
+}
+
+/// Every field of every kind of line that can have a letter: no kind has one, nor
+/// has the sequence of a line 0 or 1.
+fn all_fields() -> Vec<Reached> {
+    let later = [(KIND_10, 1), (KIND_14, 2), (KIND_15, 1)];
+    let of_read = later.map(|(layout, first)| (Call::Read, layout, first));
+    let saved = [
+        (HEAD_1, 2),
+        (NODE_1, 1),
+        (END_1, 1),
+        (HEAD_2, 2),
+        (SETTING, 2),
+        (NODE_2, 1),
+        (END_2, 1),
+    ];
+    let of_load = saved.map(|(layout, first)| (Call::Load, layout, first));
+    let mut all = Vec::new();
+    for (call, layout, first) in of_read.into_iter().chain(of_load) {
+        for field in &layout.names()[first..] {
+            all.push((call, 0, format!("{} {field} {LOWER}", layout.name)));
+        }
+    }
     all
 }

@@ -1,11 +1,16 @@
 //! All that a coverage is to reach.
 
 use super::advection;
+use super::conditions::all_behind;
+use super::forcings;
 use super::friction;
 use super::grids;
-use super::names::{lent_to, LIMITS, PARAMETER_NAMES, RUN_NAMES, SIDES};
+use super::names::{lent_to, other_length, LIMITS, OTHER_LENGTHS};
+use super::names::{PARAMETER_NAMES, RUN_NAMES, SIDES};
 use super::nans::all_kept;
 use super::spellings;
+use super::texts;
+use super::winds;
 use crate::generate::Family;
 use crate::script::Call;
 
@@ -32,9 +37,7 @@ fn runs_and_lines() -> Vec<Reached> {
         all.extend(of(call, 0, &["N 3", "N 4096", "E 1", "E 8192"]));
         if call != Call::Open {
             all.extend(of(call, 0, &["a leg twice"]));
-            all.extend(beyond(call, 10, &RUN_NAMES));
-            all.extend(of(call, 10, &["h+z just below"]));
-            all.extend(beyond(call, 12, &["held Wx", "held Wy"]));
+            all.extend(row_10(call));
         }
     }
     for (later, earlier) in (0..9).map(|pair| (1 + pair / 3, 1 + pair % 3)) {
@@ -45,10 +48,28 @@ fn runs_and_lines() -> Vec<Reached> {
     all.extend(advection::all_conditions());
     all.extend(of(Call::Save, 24, &["one shorter", "empty"]));
     all.extend(of(Call::Save, 0, &["room just enough", "room to spare"]));
-    all.extend(text_rows());
-    all.extend(line_rows());
+    all.extend(all_behind());
+    all.extend(winds::all_conditions());
+    all.extend(texts::all_conditions());
+    all.extend(forcings::all_conditions());
     all.extend(spellings::all_conditions());
     all.extend(all_kept(&ON_A_RUN));
+    all.extend(all_kept(&[Call::Read]));
+    all
+}
+
+/// Row 10, of a load in each edition: an edition 1 text has the head's wind.
+fn row_10(call: Call) -> Vec<Reached> {
+    let mut all = Vec::new();
+    let editions: &[&str] = match call {
+        Call::Load => &["edition 1 ", "edition 2 "],
+        _ => &[""],
+    };
+    for edition in editions {
+        let names = RUN_NAMES.map(|name| format!("{edition}{name}"));
+        all.extend(beyond(call, 10, &names.each_ref().map(String::as_str)));
+        all.push((call, 10, format!("{edition}h+z just below")));
+    }
     all
 }
 
@@ -75,10 +96,15 @@ fn beyond(call: Call, number: u32, names: &[&str]) -> Vec<Reached> {
 
 /// Row 1: each slice lent to the call.
 fn lengths(call: Call) -> Vec<Reached> {
-    let mut names: Vec<&str> = lent_to(call).iter().map(|&(name, _)| name).collect();
+    let mut names: Vec<&str> = lent_to(call).iter().map(|&(name, ..)| name).collect();
     names.push("x");
     let mut all = each(call, 1, &names, &["one shorter", "one longer", "empty"]);
     all.extend(of(call, 1, &["tri 1 over", "tri 2 over"]));
+    for length in OTHER_LENGTHS {
+        if names.contains(&length.0) {
+            all.push((call, 1, other_length(length)));
+        }
+    }
     all
 }
 
@@ -97,12 +123,10 @@ fn mesh_rows(call: Call) -> Vec<Reached> {
     all
 }
 
-/// Rows 12 and 13 of a step, and the limits that it accepts.
+/// Row 13 of a step, and the limits that it accepts.
 fn step_rows() -> Vec<Reached> {
     let forcing = ["elevation", "Wx'", "Wy'"];
-    let mut all = beyond(Call::Step, 12, &forcing);
-    let new = each(Call::Step, 13, &["z'", "U'", "V'"], &["below", "above"]);
-    all.extend(new);
+    let mut all = each(Call::Step, 13, &["z'", "U'", "V'"], &["below", "above"]);
     all.extend(of(Call::Step, 13, &["H' below", "H' just below"]));
     for names in [&PARAMETER_NAMES[..], &RUN_NAMES, &forcing, &["h"]] {
         all.extend(each(Call::Step, 0, names, &LIMITS));
@@ -110,42 +134,5 @@ fn step_rows() -> Vec<Reached> {
     let others = ["h+z just enough", "step 4,294,967,294"];
     all.extend(of(Call::Step, 0, &others));
     all.extend(of(Call::Step, 0, &["kind 0", "kind 1", "kind 2"]));
-    all
-}
-
-/// The faults of row 20 that a line of a text and a forcing line both have. A
-/// text's line that is too long has no line feed where it is due.
-const LINE_FAULTS: [&str; 5] = [
-    "missing",
-    "too short",
-    "no line feed",
-    "line feed too early",
-    "wrong digit",
-];
-
-/// Rows 20 to 23 of a load.
-fn text_rows() -> Vec<Reached> {
-    let lines = ["head", "node", "end"];
-    let mut all = each(Call::Load, 20, &lines, &LINE_FAULTS);
-    all.extend(of(Call::Load, 20, &["trailing"]));
-    all.extend(of(Call::Load, 21, &lines));
-    all.extend(each(Call::Load, 22, &lines, &["kind", "sequence"]));
-    all.extend(of(Call::Load, 23, &["head N", "head E", "end N"]));
-    all.extend(of(Call::Load, 0, &["last step"]));
-    all
-}
-
-/// Rows 20 to 22 of a forcing line.
-fn line_rows() -> Vec<Reached> {
-    let mut all = of(Call::Read, 20, &LINE_FAULTS);
-    all.extend(of(Call::Read, 20, &["too long"]));
-    all.extend(of(Call::Read, 21, &["check byte"]));
-    let beginnings = ["kind", "sequence", "expected above 65,535"];
-    all.extend(of(Call::Read, 22, &beginnings));
-    all.extend(of(
-        Call::Read,
-        0,
-        &["sequence 0", "sequence 65535", "a NaN"],
-    ));
     all
 }

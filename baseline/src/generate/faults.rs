@@ -4,13 +4,14 @@
 use super::nans;
 use super::pen::Pen;
 use super::runs::{make_room, read_forcing};
-use super::settings::{any_manner, clock, forcing, save_length, set_state, small_size};
+use super::settings::{any_manner, clock, forcing, room_needed, set_state, small_size};
 use super::settings::{otherwise, start};
 use super::spellings::respell;
 use super::texts::damage;
 use super::values::{anything, in_size, inside, lowest_elevation, tested, word};
 use super::values::{DEPTH, ELEVATION, PARAMETERS, RUNS, WIND};
-use crate::records::{Clock, Forcing, Parameters};
+use crate::mesh::STATE_RUNS;
+use crate::records::{Clock, Parameters};
 use crate::script::Call;
 
 /// Rounds of faults on one small mesh. In each, some faults are made, calls
@@ -25,7 +26,7 @@ pub(crate) fn faults(pen: &mut Pen) {
     }
     for _ in 0..8 + pen.dice.below(10) {
         let forcing = forcing(pen, manner);
-        pen.set_forcing(forcing);
+        pen.set_forcing(&forcing);
         if !pen.dice.one_in(3) {
             pen.work_rooms();
         }
@@ -67,13 +68,14 @@ fn round(pen: &mut Pen) {
 }
 
 /// The rows of faults, as often as they have conditions to reach.
-const ROWS: [u32; 35] = [
-    1, 1, 1, 1, 2, 2, 3, 4, 4, 4, 5, 6, 6, 7, 7, 20, 24, // whole slices among them
-    8, 8, 9, 9, 10, 10, 10, 10, 10, 10, 11, 11, 12, 12, 12, 12, 12, 12, // single numbers
+const ROWS: [u32; 38] = [
+    1, 1, 1, 1, 1, 2, 2, 3, 4, 4, 4, 5, 6, 6, 7, 7, 20, 24, // whole slices among them
+    8, 8, 9, 9, 10, 10, 10, 10, 10, 10, 10, 10, 11, 11, 12, 12, 12, 12, 12,
+    12, // single numbers
 ];
 
 /// Where the faults of single numbers begin.
-const SINGLE: usize = 17;
+const SINGLE: usize = 18;
 
 /// One fault. The row it is meant for.
 fn fault(pen: &mut Pen) -> u32 {
@@ -102,11 +104,11 @@ fn fault(pen: &mut Pen) -> u32 {
 /// 1: "triangle list no multiple of 3, or a slice of another length": one
 /// shorter, one longer, or empty.
 fn length(pen: &mut Pen) {
-    if pen.dice.one_in(8) {
+    if pen.dice.one_in(5) {
         return other_runs(pen);
     }
     let names = [
-        "x", "y", "tri", "h", "kind", "state", "next", "work", "sums",
+        "x", "y", "tri", "h", "kind", "state", "next", "work", "sums", "forcing",
     ];
     let name = pen.dice.one_of(&names);
     let length = pen.length(name);
@@ -123,11 +125,19 @@ fn length(pen: &mut Pen) {
     }
 }
 
-/// 1: a work room of other runs of N, 3N as before request #103 among them.
+/// 1: a slice as long as it was before a request, or as a misreading would have it:
+/// a work room of 3N, a state of 4N, a forcing of three numbers, and so on.
 fn other_runs(pen: &mut Pen) {
-    let length = pen.dice.one_of(&[3, 4, 6]) * pen.nodes();
+    let nodes = pen.nodes();
+    let (name, length) = match pen.dice.below(6) {
+        0 | 1 => ("work", pen.dice.one_of(&[3, 4, 6]) * nodes),
+        2 => (pen.dice.one_of(&["state", "next"]), 4 * nodes),
+        3 => ("forcing", 3),
+        4 => ("forcing", 1 + nodes),
+        _ => ("forcing", 3 * nodes),
+    };
     let filling = word(anything(&mut pen.dice));
-    pen.change_slice("work", format!("fill work {length} {filling}"));
+    pen.change_slice(name, format!("fill {name} {length} {filling}"));
 }
 
 /// 2: "N not 3..4,096 or E not 1..8,192", and the limits themselves.
@@ -157,9 +167,13 @@ fn resize(pen: &mut Pen, nodes: usize) {
 
 /// Makes the rooms of a step fit another N.
 fn change_rooms(pen: &mut Pen, nodes: usize) {
-    for (name, runs) in [("state", 4), ("next", 4), ("work", 5)] {
-        let line = format!("fill {name} {} {}", runs * nodes, word(0.0));
-        pen.change_slice(name, line);
+    for (name, length) in [
+        ("state", STATE_RUNS * nodes),
+        ("next", STATE_RUNS * nodes),
+        ("work", 5 * nodes),
+        ("forcing", 1 + 2 * nodes),
+    ] {
+        pen.change_slice(name, format!("fill {name} {length} {}", word(0.0)));
     }
 }
 
@@ -306,10 +320,16 @@ fn parameter(pen: &mut Pen) {
     pen.change_parameters(Parameters { dt, tau, k, f, ..p });
 }
 
-/// 10: "either z beyond 30 in size, present h+z below 0.1, U or V beyond 20".
+/// 10: "either z beyond 30 in size, present h+z below 0.1, U or V beyond 20", and
+/// "the node winds at 0.1". At times a later node is beyond in another run too.
 fn state(pen: &mut Pen) {
     let (node, nodes) = (pen.any_node(), pen.nodes());
-    let run = pen.dice.below(5);
+    let run = pen.dice.below(7);
+    if node + 1 < nodes && pen.dice.one_in(6) {
+        let (later, run) = (node + 1, pen.dice.below(6));
+        let beyond = tested(&mut pen.dice, RUNS[run]);
+        change_state(pen, run * nodes + later, beyond);
+    }
     let (Some(&h), Some(range)) = (pen.script.h.0.get(node), RUNS.get(run)) else {
         return dry(pen, node);
     };
@@ -323,9 +343,7 @@ fn state(pen: &mut Pen) {
 
 /// Changes one number of the state.
 fn change_state(pen: &mut Pen, at: usize, new: f64) {
-    if let Some(&old) = pen.script.state.0.get(at) {
-        pen.change_element("state", at, word(new), word(old));
-    }
+    pen.change_float("state", at, new);
 }
 
 /// 10: "present h+z below 0.1", by one bit, or just not below.
@@ -346,43 +364,40 @@ fn dry(pen: &mut Pen, node: usize) {
 /// 11: "step number is 4,294,967,295", or one before it.
 fn last_step(pen: &mut Pen) {
     let step = pen.dice.one_of(&[u32::MAX, u32::MAX, u32::MAX - 1]);
-    pen.change_clock(Clock {
-        step,
-        ..pen.script.clock
-    });
+    pen.change_clock(Clock { step });
 }
 
-/// 12: "held wind beyond 0.1; forcing elevation beyond 30; Wx', Wy' beyond
-/// 0.1". At times the forcing is then read from a line.
+/// 12: "forcing elevation beyond 30; Wx', Wy' beyond 0.1", at any node, the first
+/// and the last as often as all others. At times the forcing is then read from
+/// lines.
 fn winds(pen: &mut Pen) {
-    let (mut clock, mut forcing) = (pen.script.clock, pen.script.forcing);
-    for _ in 0..1 + pen.dice.below(5) / 4 {
-        let dice = &mut pen.dice;
-        match dice.below(7) {
-            0 | 1 => clock.wx = tested(dice, WIND),
-            2 | 3 => clock.wy = tested(dice, WIND),
-            4 => forcing.elevation = tested(dice, ELEVATION),
-            5 => forcing.wx = tested(dice, WIND),
-            _ => forcing.wy = tested(dice, WIND),
-        }
+    for _ in 0..pen.dice.one_of(&[1, 1, 1, 2, 2]) {
+        let (nodes, any) = (pen.nodes(), pen.any_node());
+        let node = pen.dice.one_of(&[0, any, nodes.saturating_sub(1)]);
+        let (at, range) = match pen.dice.below(5) {
+            0 => (0, ELEVATION),
+            1 | 2 => (1 + node, WIND),
+            _ => (1 + nodes + node, WIND),
+        };
+        let new = tested(&mut pen.dice, range);
+        pen.change_float("forcing", at, new);
     }
-    pen.change_clock(clock);
-    pen.change_forcing(forcing);
-    if pen.dice.one_in(4) {
-        read_forcing(pen, forcing);
+    let forcing = pen.script.forcing.0.clone();
+    if forcing.len() == 1 + 2 * pen.nodes() && pen.dice.one_in(4) {
+        read_forcing(pen, &forcing);
     }
 }
 
-/// 20 to 23, and 12 and 10 of what is loaded.
+/// 20 to 23, 25, and 10 of what is loaded.
 fn text(pen: &mut Pen) {
     keep_text(pen);
     damage(pen);
 }
 
-/// 24: "text room below 70+73N".
+/// 24: "A save is then 127+105N bytes, and row 24 reads so".
 fn room(pen: &mut Pen) {
     keep_text(pen);
-    let needed = save_length(pen);
+    let needed = room_needed(pen);
     let any = pen.dice.below(needed);
     let kept = pen.dice.one_of(&[needed - 1, needed - 1, 0, any]);
     pen.say(format!("keep text {kept}"));
@@ -393,7 +408,7 @@ fn keep_text(pen: &mut Pen) {
     pen.change_slice("text", String::from("# the text is undone afterwards"));
 }
 
-/// Short steps without tau, friction and a held wind.
+/// Short steps without tau and friction.
 fn becalm(pen: &mut Pen, dt: f64, f: f64) {
     pen.change_parameters(Parameters {
         dt,
@@ -402,11 +417,7 @@ fn becalm(pen: &mut Pen, dt: f64, f: f64) {
         f,
         ..pen.script.p
     });
-    pen.change_clock(Clock {
-        step: 5,
-        wx: 0.0,
-        wy: 0.0,
-    });
+    pen.change_clock(Clock { step: 5 });
 }
 
 /// A step, and at times the same under the other setting of advection.
@@ -431,7 +442,7 @@ fn stream(pen: &mut Pen) {
     };
     let z: Vec<f64> = (0..nodes).map(|_| any(0.5)).collect();
     let velocities: Vec<f64> = (0..2 * nodes).map(|_| any(4.0)).collect();
-    let state = [&z[..], &z, &velocities].concat();
+    let state = [&z[..], &z, &velocities, &vec![0.0; 2 * nodes]].concat();
     let words: Vec<String> = state.into_iter().map(word).collect();
     pen.change_slice("state", format!("set state {}", words.join(" ")));
     step_and_otherwise(pen);
@@ -440,7 +451,7 @@ fn stream(pen: &mut Pen) {
 /// 13: "z' beyond 30, H' below 0.1, U' or V' beyond 20": still water with a few
 /// nodes that stand at a limit and are pushed over it.
 fn nudge(pen: &mut Pen) {
-    let still = format!("fill state {} {}", 4 * pen.nodes(), word(0.0));
+    let still = format!("fill state {} {}", STATE_RUNS * pen.nodes(), word(0.0));
     pen.change_slice("state", still);
     becalm(pen, 0.125, 0.0);
     for _ in 0..pen.dice.one_of(&[1, 1, 2, 3]) {
@@ -484,10 +495,7 @@ fn low_tide(pen: &mut Pen, node: usize) {
 fn open_to(pen: &mut Pen, node: usize, h: f64, elevation: f64) {
     pen.change_element("h", node, word(h), word(pen.script.h.0[node]));
     pen.change_element("kind", node, 1, pen.script.kind.0[node]);
-    pen.change_forcing(Forcing {
-        elevation,
-        ..pen.script.forcing
-    });
+    pen.change_float("forcing", 0, elevation);
 }
 
 /// A node with little water is flooded: friction by H in m and H' in p turns
@@ -516,7 +524,7 @@ fn lifted(pen: &mut Pen, node: usize) {
     pen.change_slice("h", format!("fill h {nodes} {}", word(h)));
     pen.change_slice("kind", format!("fill kind {nodes} 0"));
     pen.change_slice("state", format!("fill state {} {}", 2 * nodes, word(z)));
-    pen.lengthen("state", &vec![word(0.0); 2 * nodes].join(" "));
+    pen.lengthen("state", &vec![word(0.0); 4 * nodes].join(" "));
     let speed = pen.dice.one_of(&[10.0, -10.0]);
     change_state(pen, run * nodes + node, speed);
 }
@@ -529,7 +537,8 @@ fn carried(pen: &mut Pen) {
         let speed = pen.dice.one_of(&[20.0, -20.0]);
         change_state(pen, run * nodes + node, speed);
     }
-    pen.change_forcing(Forcing::ZERO);
+    let still = format!("fill forcing {} {}", 1 + 2 * nodes, word(0.0));
+    pen.change_slice("forcing", still);
 }
 
 /// A node's U or V stands at its limit, and the wind may blow that way.
@@ -539,16 +548,5 @@ fn fast(pen: &mut Pen, node: usize) {
     let wind = sign * pen.dice.one_of(&[0.1, 0.1, 0.0]);
     pen.change_element("kind", node, 0, pen.script.kind.0[node]);
     change_state(pen, run * nodes + node, sign * 20.0);
-    let forcing = pen.script.forcing;
-    pen.change_forcing(if run == 2 {
-        Forcing {
-            wx: wind,
-            ..forcing
-        }
-    } else {
-        Forcing {
-            wy: wind,
-            ..forcing
-        }
-    });
+    pen.change_float("forcing", 1 + (run - 2) * nodes + node, wind);
 }

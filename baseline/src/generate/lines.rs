@@ -3,14 +3,15 @@
 use super::dice::Dice;
 use super::pen::Pen;
 use super::spellings::spelled;
-use super::values::{anything, at_edge, WIND};
 use crate::frames::{byte_of, Line};
 
-/// The kind bytes of the four kinds of lines, and of none.
-const KINDS: [u8; 8] = [0x01, 0x02, 0x03, 0x10, 0x00, 0x1A, 0xC0, 0xFF];
+/// The kind bytes of the nine kinds of lines, and of none.
+const KINDS: [u8; 15] = [
+    0x01, 0x02, 0x03, 0x04, 0x05, 0x06, 0x10, 0x14, 0x15, 0x00, 0x0A, 0x1A, 0xAF, 0xC0, 0xFF,
+];
 
 /// Bytes that are no digit: most often those next to the digits.
-const NO_DIGITS: &[u8] = b"gG`@/:gG`@/:xX \0\xFF\r\n\n\n\n";
+const NO_DIGITS: &[u8] = b"gG`@/:gG`@/:xX \0\xFF\r\n\n\n\n\n\n\n\n";
 
 /// The bit that tells a letter's two cases apart: without it `0` to `9` are no
 /// digits.
@@ -30,10 +31,30 @@ pub(crate) fn frame_of(line: &[u8]) -> Vec<u8> {
     frame
 }
 
-/// A forcing's frame, each number by its own pattern.
-pub(crate) fn forcing_frame(sequence: u16, numbers: [f64; 3]) -> Vec<u8> {
-    let patterns = numbers.map(|number| number.to_bits().to_be_bytes());
-    [&[0x10], &sequence.to_be_bytes()[..], &patterns.concat()].concat()
+/// A line of floats, each by its own pattern.
+pub(crate) fn line_with(kind: u8, sequence: u16, numbers: &[f64]) -> Vec<u8> {
+    let mut frame = vec![kind];
+    frame.extend(sequence.to_be_bytes());
+    for number in numbers {
+        frame.extend(number.to_bits().to_be_bytes());
+    }
+    line_of(&frame)
+}
+
+/// A forcing of kind 10.
+pub(crate) fn kind_10(sequence: u16, numbers: [f64; 3]) -> Vec<u8> {
+    line_with(0x10, sequence, &numbers)
+}
+
+/// A forcing of kinds 14 and 15: 1+2N numbers, sequences from 0.
+pub(crate) fn kinds_14_and_15(forcing: &[f64]) -> Vec<u8> {
+    let winds = forcing.get(1..).unwrap_or(&[]);
+    let (wx, wy) = winds.split_at(winds.len() / 2);
+    let mut text = line_with(0x14, 0, &forcing[..1]);
+    for (node, (&wx, &wy)) in wx.iter().zip(wy).enumerate() {
+        text.extend(line_with(0x15, node as u16 + 1, &[wx, wy]));
+    }
+    text
 }
 
 /// Writes bytes over a frame, from a place on.
@@ -45,10 +66,10 @@ pub(crate) fn put_field(frame: &mut [u8], at: usize, bytes: &[u8]) {
 
 /// A right line, damaged in one of the ways rows 20, 21 and 22 know.
 pub(crate) fn damaged(dice: &mut Dice, line: &[u8]) -> Vec<u8> {
-    match dice.below(4) {
-        0 => with_wrong_digit(dice, line),
-        1 => with_wrong_sum(dice, line),
-        2 => with_wrong_beginning(dice, line),
+    match dice.below(6) {
+        0 | 1 => with_wrong_digit(dice, line),
+        2 => with_wrong_sum(dice, line),
+        3 => with_wrong_beginning(dice, line),
         _ => of_wrong_length(dice, line),
     }
 }
@@ -107,60 +128,22 @@ fn of_wrong_length(dice: &mut Dice, line: &[u8]) -> Vec<u8> {
     let mut line = line.to_vec();
     let last = line.len() - 1;
     let some = 1 + dice.below(2);
-    match dice.below(8) {
+    match dice.below(9) {
         0 => line.truncate(last),
-        1 => line[last] = dice.one_of(b"\r0 \0"),
-        2 => line.insert(last, b'\r'),
-        3 => drop(line.drain(last - some..last)),
-        4 => drop(line.splice(last..last, vec![b'0'; some])),
-        5 => line.truncate(dice.below(last)),
-        6 => line.clear(),
+        1 | 2 => line[last] = dice.one_of(b"\r0 \0"),
+        3 => line.insert(last, b'\r'),
+        4 => drop(line.drain(last - some..last)),
+        5 => drop(line.splice(last..last, vec![b'0'; some])),
+        6 => line.truncate(dice.below(last)),
+        7 => line.clear(),
         _ => line.extend(vec![b'\n'; some]),
     }
     line
 }
 
-/// The sequence numbers at the ends of their range.
-const SEQUENCES: [u16; 7] = [0, 1, 255, 256, 32_768, 65_534, 65_535];
-
-/// The expected numbers that no line has.
-const UNMET: [u32; 4] = [65_536, 65_537, 131_071, 4_294_967_295];
-
-/// Forcing lines that are read, right and damaged.
-pub(crate) fn reads(pen: &mut Pen) {
-    for _ in 0..4 + pen.dice.below(12) {
-        let (edge, any) = (pen.dice.one_of(&SEQUENCES), pen.dice.bits() as u16);
-        let sequence = pen.dice.one_of(&[edge, any]);
-        let numbers = [(); 3].map(|()| match pen.dice.below(2) {
-            0 => anything(&mut pen.dice),
-            _ => at_edge(&mut pen.dice, WIND),
-        });
-        let mut line = line_of(&forcing_frame(sequence, numbers));
-        if pen.dice.one_in(2) {
-            line = damaged(&mut pen.dice, &line);
-        }
-        let expected = expected(&mut pen.dice, sequence);
-        // At times the same line is read once more, in another spelling.
-        for _ in 0..pen.dice.one_of(&[1, 1, 2]) {
-            read(pen, &line, expected);
-            pen.look("line");
-        }
-    }
-}
-
-/// Reads a line in any spelling.
-pub(crate) fn read(pen: &mut Pen, line: &[u8], expected: u32) {
-    let line = spelled(&mut pen.dice, line);
-    pen.become_bytes("line", &line);
-    pen.say(format!("read {expected}"));
-}
-
-/// Most often the line's own number, else another.
-fn expected(dice: &mut Dice, sequence: u16) -> u32 {
-    let (sequence, any) = (u32::from(sequence), dice.bits() as u32);
-    match dice.below(6) {
-        0 => dice.one_of(&UNMET),
-        1 => dice.one_of(&[sequence + 1, sequence + 65_536, any]),
-        _ => sequence,
-    }
+/// Reads a forcing's lines in any spelling.
+pub(crate) fn read(pen: &mut Pen, lines: &[u8], expected: u32) {
+    let lines = spelled(&mut pen.dice, lines);
+    pen.become_bytes("lines", &lines);
+    pen.read(expected);
 }

@@ -5,20 +5,26 @@ use super::dice::Dice;
 use super::values::{anything, word};
 use super::worlds::World;
 use crate::frames::two_digits;
-use crate::records::{Answer, Clock, Forcing, Parameters};
+use crate::mesh::STATE_RUNS;
+use crate::records::{Answer, Clock, Parameters};
 use crate::script::{Call, Script};
 use std::fmt::Display;
 
 /// Slices up to this length are printed, longer ones as a digest.
-const PRINTED: usize = 16;
+const PRINTED: usize = 18;
 
-/// The slices that a call on a run is lent beside the mesh.
+/// Forcings up to this length are set number by number, of longer ones the
+/// numbers that are not the last one.
+const SET: usize = 601;
+
+/// The slices that a call is lent beside the mesh.
 fn rooms_of(call: Call) -> &'static [&'static str] {
     match call {
         Call::Open => &["state"],
-        Call::Step => &["state", "next", "work", "sums"],
+        Call::Step => &["state", "next", "work", "sums", "forcing"],
         Call::Save | Call::Load => &["state", "text"],
-        Call::Read | Call::Grid => &[],
+        Call::Read => &["forcing", "lines"],
+        Call::Grid => &[],
     }
 }
 
@@ -93,6 +99,14 @@ impl Pen {
         answer
     }
 
+    /// Reads a forcing from the lines that the script holds, and looks at them and
+    /// at the room. The answer.
+    pub fn read(&mut self, expected: u32) -> Answer {
+        let answer = self.say(format!("read {expected}"));
+        self.look_at(rooms_of(Call::Read));
+        answer.unwrap_or(Answer::accepted(0))
+    }
+
     fn look_at(&mut self, names: &[&str]) {
         for name in names {
             self.look(name);
@@ -138,26 +152,39 @@ impl Pen {
         self.rooms();
     }
 
-    /// Rooms for a mesh: state, next state, work room and sums, each filled
-    /// with something that a call is seen to write over.
+    /// Rooms for a mesh: state, next state, work room, sums and forcing, each
+    /// filled with something that a call is seen to write over.
     pub fn rooms(&mut self) {
-        self.fill_runs("state", 4);
+        self.fill_runs("state", STATE_RUNS);
         self.work_rooms();
+        self.forcing_room();
+    }
+
+    /// A room for the mesh's forcings, filled with anything.
+    pub fn forcing_room(&mut self) {
+        let length = 1 + 2 * self.nodes();
+        self.fill("forcing", length);
     }
 
     /// The rooms that a step is lent beside the state, filled anew: after an
     /// accepted step they are "all zero", and a refusal that zeroes them would
     /// not be seen.
     pub fn work_rooms(&mut self) {
-        self.fill_runs("next", 4);
+        self.fill_runs("next", STATE_RUNS);
         self.fill_runs("work", 5);
         let filling = self.dice.bits();
         self.say(format!("fill sums {} {filling}", self.nodes()));
     }
 
     fn fill_runs(&mut self, name: &str, runs: usize) {
+        let length = runs * self.nodes();
+        self.fill(name, length);
+    }
+
+    /// A slice of floats of this length, filled with anything.
+    pub fn fill(&mut self, name: &str, length: usize) {
         let filling = word(anything(&mut self.dice));
-        self.say(format!("fill {name} {} {filling}", runs * self.nodes()));
+        self.say(format!("fill {name} {length} {filling}"));
     }
 
     pub fn set_parameters(&mut self, p: Parameters) {
@@ -180,16 +207,28 @@ impl Pen {
         self.say(clock_line(clock));
     }
 
-    pub fn set_forcing(&mut self, forcing: Forcing) {
-        self.say(forcing_line(forcing));
+    pub fn set_forcing(&mut self, forcing: &[f64]) {
+        let Some((last, others)) = forcing.split_last() else {
+            return;
+        };
+        if forcing.len() <= SET {
+            self.say_list("set forcing", forcing.iter().copied().map(word));
+            return;
+        }
+        self.say(format!("fill forcing {} {}", forcing.len(), word(*last)));
+        for (at, &number) in others.iter().enumerate() {
+            if number.to_bits() != last.to_bits() {
+                self.say(format!("put forcing {at} {}", word(number)));
+            }
+        }
     }
 
-    /// Makes the text or the line these bytes, the shorter way: by a command for
+    /// Makes the text or the lines these bytes, the shorter way: by a command for
     /// each byte that differs, or by all bytes from the first of them on.
     pub fn become_bytes(&mut self, name: &str, bytes: &[u8]) {
         let held = match name {
             "text" => self.script.text.0.clone(),
-            _ => self.script.line.0.clone(),
+            _ => self.script.lines.0.clone(),
         };
         let pairs = || bytes.iter().zip(&held);
         let same = pairs().take_while(|(new, old)| new == old).count();
@@ -255,9 +294,18 @@ impl Pen {
         self.change(clock_line(clock), clock_line(self.script.clock));
     }
 
-    /// Changes the forcing.
-    pub fn change_forcing(&mut self, forcing: Forcing) {
-        self.change(forcing_line(forcing), forcing_line(self.script.forcing));
+    /// Changes one number of a slice of floats, where it has such an element.
+    pub fn change_float(&mut self, name: &str, at: usize, new: f64) {
+        let floats = match name {
+            "h" => &self.script.h.0,
+            "state" => &self.script.state.0,
+            "next" => &self.script.next.0,
+            "work" => &self.script.work.0,
+            _ => &self.script.forcing.0,
+        };
+        if let Some(&old) = floats.get(at) {
+            self.change_element(name, at, word(new), word(old));
+        }
     }
 
     /// Undoes every change, the latest first.
@@ -290,12 +338,7 @@ fn parameters_line(p: Parameters, byte: u8) -> String {
 }
 
 fn clock_line(clock: Clock) -> String {
-    format!("clock {} {} {}", clock.step, word(clock.wx), word(clock.wy))
-}
-
-fn forcing_line(forcing: Forcing) -> String {
-    let words = [forcing.elevation, forcing.wx, forcing.wy].map(word);
-    format!("forcing {}", words.join(" "))
+    format!("clock {}", clock.step)
 }
 
 /// The word of a byte.

@@ -1,13 +1,14 @@
 //! Long runs: open, steps, saves and loads.
 
-use super::lines::{forcing_frame, line_of, read};
+use super::lines::{kind_10, kinds_14_and_15, read};
 use super::pen::{byte_word, Pen};
-use super::settings::{any_manner, any_size, clock, forcing, parameters, save_length};
-use super::settings::{otherwise, start};
+use super::settings::{any_manner, any_size, clock, forcing, parameters, room_needed};
+use super::settings::{otherwise, start, Wind};
 use super::spellings::respell;
 use super::values::{anything, word};
 use super::worlds::{world, Manner};
-use crate::records::Forcing;
+use crate::mesh::STATE_RUNS;
+use crate::saves::edition_1;
 use crate::script::Call;
 
 /// How many steps a run of this size takes.
@@ -81,28 +82,37 @@ fn step_otherwise(pen: &mut Pen) {
     pen.set_clock(clock);
 }
 
-/// Sets a forcing, at times by a line that is read.
+/// Sets a forcing, at times by lines that are read.
 fn force(pen: &mut Pen, manner: Manner) {
     let forcing = forcing(pen, manner);
-    if pen.dice.one_in(6) {
-        read_forcing(pen, forcing);
+    if pen.dice.one_in(5) {
+        read_forcing(pen, &forcing);
     } else {
-        pen.set_forcing(forcing);
+        pen.set_forcing(&forcing);
     }
 }
 
-/// Reads a forcing from a line of its own.
-pub(crate) fn read_forcing(pen: &mut Pen, forcing: Forcing) {
-    let sequence = pen.dice.bits() as u16;
-    let numbers = [forcing.elevation, forcing.wx, forcing.wy];
-    let line = line_of(&forcing_frame(sequence, numbers));
-    read(pen, &line, u32::from(sequence));
+/// Meshes up to this size have forcings of kinds 14 and 15.
+const LINE_BY_LINE: usize = 40;
+
+/// Reads a forcing from lines of its own: of kinds 14 and 15, or of kind 10 with
+/// the wind of the first node for all, if there is one.
+pub(crate) fn read_forcing(pen: &mut Pen, forcing: &[f64]) {
+    let (nodes, sequence) = (pen.nodes(), pen.dice.bits() as u16);
+    pen.forcing_room();
+    let in_one = nodes > LINE_BY_LINE || pen.dice.one_in(3);
+    let text = if in_one && nodes > 0 {
+        kind_10(sequence, [forcing[0], forcing[1], forcing[1 + nodes]])
+    } else {
+        kinds_14_and_15(forcing)
+    };
+    read(pen, &text, u32::from(sequence));
 }
 
 /// Room for a save, with some bytes more than it needs.
 pub(crate) fn make_room(pen: &mut Pen, more: usize) {
     let filling = byte_word(pen.dice.bits() as u8);
-    let room = save_length(pen) + more;
+    let room = room_needed(pen) + more;
     pen.say(format!("fill text {room} {filling}"));
 }
 
@@ -110,7 +120,7 @@ pub(crate) fn make_room(pen: &mut Pen, more: usize) {
 /// advection, in another spelling or in two, and saves again: "loading it returns
 /// the same bits", and "one written form".
 pub(crate) fn save_and_load(pen: &mut Pen) {
-    let more = pen.dice.one_of(&[0, 1, 17, 73]);
+    let more = pen.dice.one_of(&[0, 1, 17, 105]);
     make_room(pen, more);
     let saved = pen.call(Call::Save);
     pen.say(format!("keep text {}", saved.place));
@@ -140,8 +150,30 @@ pub(crate) fn save_and_load(pen: &mut Pen) {
         respell(pen);
         pen.call(Call::Load);
     }
+    if pen.nodes() <= LINE_BY_LINE && pen.dice.one_in(4) {
+        load_older(pen);
+    }
     make_room(pen, 0);
     pen.call(Call::Save);
+}
+
+/// "last night's" save: the text of edition 1 that the run would have left, with
+/// one wind for all nodes.
+pub(crate) fn older_text(pen: &mut Pen, wind: Wind) -> Vec<u8> {
+    let both = [wind.draw(&mut pen.dice), wind.draw(&mut pen.dice)];
+    let (state, clock) = (&pen.script.state.0, pen.script.clock);
+    edition_1(state, pen.triangles(), clock, both)
+}
+
+/// Loads a text of edition 1, in any spelling.
+pub(crate) fn load_older(pen: &mut Pen) {
+    let wind = pen.dice.one_of(&[Wind::Any, Wind::Any, Wind::AtEdge]);
+    let text = older_text(pen, wind);
+    pen.become_bytes("text", &text);
+    if pen.dice.one_in(2) {
+        respell(pen);
+    }
+    pen.call(Call::Load);
 }
 
 /// The calls on a mesh as its shape gave it, whatever rows it breaks.
@@ -151,7 +183,13 @@ pub(crate) fn raw(pen: &mut Pen) {
     pen.set_world(&world);
     let p = parameters(pen, Manner::Calm);
     pen.set_parameters(p);
-    pen.say(format!("fill state {} {}", 4 * pen.nodes(), word(0.0)));
+    pen.say(format!(
+        "fill state {} {}",
+        STATE_RUNS * pen.nodes(),
+        word(0.0)
+    ));
+    let forcing = forcing(pen, Manner::Calm);
+    pen.set_forcing(&forcing);
     for call in [Call::Step, Call::Save, Call::Load, Call::Open] {
         pen.call(call);
     }

@@ -1,10 +1,13 @@
 //! Sizes, parameters, clocks, forcings and states, legal each.
 
+use super::dice::Dice;
 use super::pen::Pen;
 use super::values::{at_edge, in_size, inside, legal, lowest_elevation, word, Range};
-use super::values::{COLUMN, DEPTH, ELEVATION, PARAMETERS, RUNS, WIND};
+use super::values::{COLUMN, DEPTH, ELEVATION, PARAMETERS, VELOCITY, WIND};
 use super::worlds::{world, Manner};
-use crate::records::{Clock, Forcing, Parameters};
+use crate::mesh::STATE_RUNS;
+use crate::records::{Clock, Parameters};
+use crate::saves::save_length;
 use crate::script::Call;
 
 /// The numbers of calm water: elevations, velocities.
@@ -34,9 +37,13 @@ pub(crate) fn any_manner(pen: &mut Pen) -> Manner {
     pen.dice.one_of(&manners)
 }
 
-/// The bytes of a save of the run: "70+73N bytes".
-pub(crate) fn save_length(pen: &Pen) -> usize {
-    70 + 73 * pen.nodes()
+/// Meshes up to this size have a wind of its own at every node, larger ones at a
+/// few.
+const WINDY: usize = 300;
+
+/// The bytes of a save of the run.
+pub(crate) fn room_needed(pen: &Pen) -> usize {
+    save_length(pen.nodes())
 }
 
 /// Legal parameters; calm ones let a run go on for long.
@@ -64,7 +71,7 @@ pub(crate) fn parameters(pen: &mut Pen, manner: Manner) -> Parameters {
             .max(0.125),
         tau: dice.one_of(&[0.0, -0.0, some, some, tau / 64.0, 1.0]),
         k: dice.one_of(&[0.0, -0.0, some, k / 64.0, 1.0]),
-        f: dice.one_of(&[0.0, f, -0.001, 0.001]),
+        f: dice.one_of(&[0.0, -0.0, f, -0.001, 0.001]),
         ..any
     }
 }
@@ -84,34 +91,65 @@ pub(crate) fn clock(pen: &mut Pen) -> Clock {
         1 => pen.dice.bits() as u32,
         _ => pen.dice.below(100) as u32,
     };
-    let [wx, wy] = [(); 2].map(|()| legal(&mut pen.dice, WIND));
-    Clock { step, wx, wy }
+    Clock { step }
 }
 
-/// A legal forcing.
-pub(crate) fn forcing(pen: &mut Pen, manner: Manner) -> Forcing {
-    let dice = &mut pen.dice;
-    let [elevation, wx, wy] = [ELEVATION, WIND, WIND].map(|range| legal(dice, range));
-    match (manner, dice.below(12)) {
-        (Manner::Wild, _) => Forcing { elevation, wx, wy },
+/// A legal forcing: the elevation, then Wx' of all nodes and Wy' of all nodes.
+pub(crate) fn forcing(pen: &mut Pen, manner: Manner) -> Vec<f64> {
+    let (nodes, dice) = (pen.nodes(), &mut pen.dice);
+    let elevation = legal(dice, ELEVATION);
+    let (elevation, wind) = match (manner, dice.below(12)) {
+        (Manner::Wild, _) => (elevation, Wind::Any),
         // An open node has at least 1 m below it.
-        (Manner::Bold, _) => Forcing {
-            elevation: elevation.abs() - 0.5,
-            wx,
-            wy,
-        },
+        (Manner::Bold, _) => (elevation.abs() - 0.5, Wind::Any),
         // The wind may be anything it can: it takes long to move the water.
-        (_, 0) => Forcing {
-            elevation: dice.one_of(&[0.0, -0.0]),
-            wx: at_edge(dice, WIND),
-            wy: at_edge(dice, WIND),
-        },
-        _ => Forcing {
-            elevation: inside(dice, CALM),
-            wx: wx / 16.0,
-            wy: wy / 16.0,
-        },
+        (_, 0) => (dice.one_of(&[0.0, -0.0]), Wind::AtEdge),
+        _ => (inside(dice, CALM), Wind::Light),
+    };
+    let mut forcing = vec![elevation];
+    forcing.extend(winds(dice, nodes, wind));
+    forcing
+}
+
+/// What a wind is drawn from.
+#[derive(Clone, Copy)]
+pub(crate) enum Wind {
+    Any,
+    AtEdge,
+    Light,
+}
+
+impl Wind {
+    pub fn draw(self, dice: &mut Dice) -> f64 {
+        match self {
+            Wind::Any => legal(dice, WIND),
+            Wind::AtEdge => at_edge(dice, WIND),
+            Wind::Light => legal(dice, WIND) / 16.0,
+        }
     }
+}
+
+/// Wx and then Wy of all nodes: one wind for the whole mesh, or, most often, each
+/// node's own.
+fn winds(dice: &mut Dice, nodes: usize, wind: Wind) -> Vec<f64> {
+    if nodes > WINDY {
+        return gusts(dice, nodes, wind);
+    }
+    if dice.one_in(5) {
+        let both = [wind.draw(dice), wind.draw(dice)];
+        return both.iter().flat_map(|&one| vec![one; nodes]).collect();
+    }
+    (0..2 * nodes).map(|_| wind.draw(dice)).collect()
+}
+
+/// The winds of many nodes: the same but at a few.
+fn gusts(dice: &mut Dice, nodes: usize, wind: Wind) -> Vec<f64> {
+    let mut winds = vec![wind.draw(dice); 2 * nodes];
+    for _ in 0..8 {
+        let at = dice.below(winds.len());
+        winds[at] = wind.draw(dice);
+    }
+    winds
 }
 
 /// A legal number for one run of the state. A bold one stays so far within its
@@ -124,9 +162,11 @@ fn any_number(pen: &mut Pen, manner: Manner, range: Range) -> f64 {
     }
 }
 
-/// Earlier z, z, U and V of a node, such that row 10 lets them through.
-fn node_numbers(pen: &mut Pen, manner: Manner, h: f64) -> [f64; 4] {
-    let [mut earlier, mut z, u, v] = RUNS.map(|range| any_number(pen, manner, range));
+/// Earlier z, z, U, V, Wx and Wy of a node, such that row 10 lets them through.
+fn node_numbers(pen: &mut Pen, manner: Manner, h: f64) -> [f64; STATE_RUNS] {
+    let water = [ELEVATION, ELEVATION, VELOCITY, VELOCITY];
+    let [mut earlier, mut z, u, v] = water.map(|range| any_number(pen, manner, range));
+    let [wx, wy] = [(); 2].map(|()| legal(&mut pen.dice, WIND));
     // "present h+z below 0.1" is row 10's.
     if h + z < COLUMN {
         z = lowest_elevation(h);
@@ -136,13 +176,13 @@ fn node_numbers(pen: &mut Pen, manner: Manner, h: f64) -> [f64; 4] {
         z = z.max(0.5 - h);
         earlier = z + earlier / 64.0;
     }
-    [earlier, z, u, v]
+    [earlier, z, u, v, wx, wy]
 }
 
 /// Sets a legal state.
 pub(crate) fn set_state(pen: &mut Pen, manner: Manner) {
     let nodes = pen.nodes();
-    let mut numbers = vec![0.0; 4 * nodes];
+    let mut numbers = vec![0.0; STATE_RUNS * nodes];
     for node in 0..nodes {
         let h = pen.script.h.0.get(node).copied().unwrap_or(DEPTH.low);
         for (run, number) in node_numbers(pen, manner, h).into_iter().enumerate() {

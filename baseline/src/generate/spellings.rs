@@ -4,6 +4,7 @@
 
 use super::dice::Dice;
 use super::pen::Pen;
+use crate::saves::Edition;
 
 /// Texts up to this length, of runs of about a hundred nodes, are spelled anew as
 /// a whole.
@@ -50,8 +51,13 @@ pub(crate) fn spelled(dice: &mut Dice, text: &[u8]) -> Vec<u8> {
 /// in the first byte of a sequence, which 2,559 nodes and more have.
 fn sprinkled(dice: &mut Dice, text: &[u8]) -> Vec<u8> {
     let mut letters = letters_of(text);
+    // Where the node lines begin, and how long they are.
+    let (from, length) = match Edition::of(text) {
+        Edition::One => (57, 73),
+        Edition::Two => (25 + 89, 105),
+    };
     if dice.one_in(2) {
-        letters.retain(|at| matches!(at.checked_sub(57).map(|at| at % 73), Some(2 | 3)));
+        letters.retain(|at| matches!(at.checked_sub(from).map(|at| at % length), Some(2 | 3)));
     }
     let mut text = text.to_vec();
     for _ in 0..1 + dice.below(3) {

@@ -5,11 +5,12 @@ use super::dice::Dice;
 use super::lines::{damaged, frame_of, line_of, put_field};
 use super::nans;
 use super::pen::{byte_word, Pen};
-use super::runs::make_room;
-use super::settings::{any_manner, save_length, small_size, start};
+use super::runs::{make_room, older_text};
+use super::settings::{any_manner, room_needed, small_size, start, Wind};
 use super::spellings::{respell, spelled};
-use super::values::{lowest_elevation, tested, RUNS, WIND};
+use super::values::{lowest_elevation, tested, PARAMETERS, RUNS, WIND};
 use super::worlds::Manner;
+use crate::records::Parameters;
 use crate::script::Call;
 
 /// Loads of damaged texts, and saves into rooms of every size.
@@ -21,15 +22,24 @@ pub(crate) fn texts(pen: &mut Pen) {
     }
     make_room(pen, 0);
     pen.call(Call::Save);
-    for _ in 0..5 + pen.dice.below(8) {
+    let older = older_text(pen, Wind::AtEdge);
+    let editions = [pen.script.text.0.clone(), older];
+    for _ in 0..12 + pen.dice.below(12) {
+        if pen.dice.one_in(4) {
+            let edition = pen.dice.below(2);
+            pen.become_bytes("text", &editions[edition]);
+        }
         if pen.dice.one_in(5) {
             respell(pen);
         }
         let right = pen.script.text.0.clone();
-        damage(pen);
+        match pen.dice.below(10) {
+            0 => (),
+            1 | 2 => other_run(pen),
+            _ => damage(pen),
+        }
         if pen.dice.one_in(2) {
             nans::in_slice(pen, "state");
-            nans::in_clock(pen);
         }
         pen.call(Call::Load);
         pen.mend();
@@ -37,18 +47,36 @@ pub(crate) fn texts(pen: &mut Pen) {
     }
 }
 
+/// 25: a run that differs from the text's in one of dt, tau, K and f, by one bit
+/// where its range holds that, else by the sign of a zero.
+fn other_run(pen: &mut Pen) {
+    let (p, place) = (pen.script.p, pen.dice.below(4));
+    let mut numbers = [p.dt, p.tau, p.k, p.f];
+    let (old, range) = (numbers[place], PARAMETERS[place]);
+    let others = [old.next_up(), old.next_down(), -old, -old];
+    let other = pen.dice.one_of(&others);
+    if (range.low..=range.high).contains(&other) {
+        numbers[place] = other;
+    }
+    let [dt, tau, k, f] = numbers;
+    pen.change_parameters(Parameters { dt, tau, k, f, ..p });
+}
+
 /// Damages the text that the script holds, once or twice.
 pub(crate) fn damage(pen: &mut Pen) {
     let mut text = pen.script.text.0.clone();
+    let same = any_line(&mut pen.dice, lines_of(&text).len());
     for _ in 0..1 + pen.dice.below(3) / 2 {
-        text = damaged_text(pen, &text);
+        let other = any_line(&mut pen.dice, lines_of(&text).len());
+        let at = pen.dice.one_of(&[same, other]);
+        text = damaged_text(pen, &text, at);
     }
     pen.become_bytes("text", &text);
 }
 
-/// 24: "text room below 70+73N".
+/// 24: "A save is then 127+105N bytes, and row 24 reads so".
 fn rooms(pen: &mut Pen) {
-    let length = save_length(pen);
+    let length = room_needed(pen);
     let any = pen.dice.below(length);
     for room in [length - 1, 0, any, length, length + 1] {
         let filling = byte_word(pen.dice.bits() as u8);
@@ -63,21 +91,30 @@ pub(crate) fn lines_of(text: &[u8]) -> Vec<Vec<u8>> {
     lines.map(<[u8]>::to_vec).collect()
 }
 
-/// A text with one thing more that is wrong.
-fn damaged_text(pen: &mut Pen, text: &[u8]) -> Vec<u8> {
+/// A text with one thing more that is wrong, most often on this line.
+fn damaged_text(pen: &mut Pen, text: &[u8], at: usize) -> Vec<u8> {
     let mut lines = lines_of(text);
-    // A text that was damaged before may have no line left, or short ones.
-    let at = any_line(&mut pen.dice, lines.len());
+    // A text that was damaged before may have no such line left, or short ones.
     let sound = lines.get(at).is_some_and(|line| frame_of(line).len() >= 5);
-    match pen.dice.below(12) {
-        0..10 if sound => {
+    match pen.dice.below(24) {
+        0..19 if sound => {
             let line = damaged_line(pen, &lines[at]);
             lines[at] = spelled(&mut pen.dice, &line);
         }
-        10 => return with_other_end(&mut pen.dice, text),
+        19..22 => return with_other_end(&mut pen.dice, text),
+        22 => return with_other_head(text),
         _ => rearrange(pen, &mut lines, at),
     }
     lines.concat()
+}
+
+/// A text whose head begins as the other edition's does.
+fn with_other_head(text: &[u8]) -> Vec<u8> {
+    let mut text = text.to_vec();
+    if let [b'0', digit @ (b'1' | b'4'), ..] = &mut text[..] {
+        *digit ^= b'1' ^ b'4';
+    }
+    text
 }
 
 /// A line that rows 20 to 22 refuse, or one with another value.
@@ -88,30 +125,42 @@ fn damaged_line(pen: &mut Pen, line: &[u8]) -> Vec<u8> {
     }
 }
 
-/// Any line, the head and the end as often as all the nodes.
+/// Any line, the head, the one after it and the end as often as all the nodes.
 fn any_line(dice: &mut Dice, count: usize) -> usize {
-    match dice.below(4) {
+    match dice.below(5) {
         0 => 0,
-        1 => count.saturating_sub(1),
+        1 => 1,
+        2 => count.saturating_sub(1),
         _ => dice.below(count),
     }
 }
 
-/// Another value in a field, with the check byte made right again: rows 23, 12
-/// and 10, or a text as right as before.
+/// Another value in a field, with the check byte made right again: rows 23, 25
+/// and 10, or a text as right as before. The kind is known by how long it is.
 fn with_other_field(pen: &mut Pen, line: &[u8]) -> Vec<u8> {
     let mut frame = frame_of(line);
     match frame.len() {
-        27 => other_head(&mut pen.dice, &mut frame),
-        35 => other_node(pen, &mut frame),
+        11 | 27 => other_head(&mut pen.dice, &mut frame),
+        43 => other_setting(&mut pen.dice, &mut frame),
+        35 => other_node(pen, &mut frame, 4),
+        51 => other_node(pen, &mut frame, 6),
         _ => other_count(&mut pen.dice, &mut frame, 3),
     }
     line_of(&frame)
 }
 
-/// "N (2), E (2), step (4), Wx, Wy".
+/// "dt, tau, K, f, and the sum of all D in 8 bytes": one bit of one of them, at
+/// times that of the sign.
+fn other_setting(dice: &mut Dice, frame: &mut [u8]) {
+    let (field, byte, bit) = (dice.below(5), dice.below(8), dice.below(8));
+    let (byte, bit) = dice.one_of(&[(byte, bit), (byte, bit), (0, 7)]);
+    frame[3 + 8 * field + byte] ^= 1 << bit;
+}
+
+/// "N (2), E (2), step (4), Wx, Wy", of which edition 2 has the first three.
 fn other_head(dice: &mut Dice, frame: &mut [u8]) {
-    match dice.below(5) {
+    let choices = if frame.len() == 27 { 5 } else { 3 };
+    match dice.below(choices) {
         0 => other_count(dice, frame, 3),
         1 => other_count(dice, frame, 5),
         2 => {
@@ -137,11 +186,13 @@ fn other_count(dice: &mut Dice, frame: &mut [u8], at: usize) {
     put_field(frame, at, &dice.one_of(&others).to_be_bytes());
 }
 
-/// "earlier z, z, U, V": one of them at a limit, beyond it, or a NaN; or a z
-/// with too little water over the node's depth.
-fn other_node(pen: &mut Pen, frame: &mut [u8]) {
-    let run = pen.dice.below(4);
-    let node = usize::from(frame[2]).saturating_sub(1);
+/// "earlier z, z, U, V", and Wx and Wy where there are six: one of them at a limit,
+/// beyond it, or a NaN; or a z with too little water over the node's depth.
+fn other_node(pen: &mut Pen, frame: &mut [u8], runs: usize) {
+    let run = pen.dice.below(runs);
+    // Node lines begin at line 1 where they have four values, else at line 2.
+    let before = if runs == 4 { 1 } else { 2 };
+    let node = usize::from(frame[2]).saturating_sub(before);
     let h = pen.script.h.0.get(node).copied().unwrap_or(1.0);
     let value = match pen.dice.below(2) {
         0 if run == 1 && h < 30.0 => {
@@ -155,13 +206,17 @@ fn other_node(pen: &mut Pen, frame: &mut [u8]) {
 
 /// A text that ends too early, or goes on after its end.
 fn with_other_end(dice: &mut Dice, text: &[u8]) -> Vec<u8> {
+    let lines = lines_of(text);
     let mut text = text.to_vec();
-    match dice.below(6) {
+    match dice.below(10) {
         0 => text.truncate(dice.below(text.len() + 1)),
+        8 | 9 => text = lines[..dice.below(lines.len())].concat(),
         1 => text.truncate(text.len().saturating_sub(1)),
         2 => text.push(b'\n'),
         3 => text.push(dice.bits() as u8),
         4 => text.extend(b"0300040003F6\n"),
+        5 => text.truncate(1),
+        6 => text.truncate(2),
         _ => text.clear(),
     }
     text

@@ -45,14 +45,14 @@ pub(crate) const ELEVATION: Range = in_size(30.0);
 /// Rows 10 and 13: a velocity.
 pub(crate) const VELOCITY: Range = in_size(20.0);
 
-/// Row 12: a wind.
+/// Rows 10 and 12: a wind.
 pub(crate) const WIND: Range = in_size(0.1);
 
 /// Rows 10 and 13: a water column is not below this.
 pub(crate) const COLUMN: f64 = 0.1;
 
 /// The runs of the state, by their order.
-pub(crate) const RUNS: [Range; 4] = [ELEVATION, ELEVATION, VELOCITY, VELOCITY];
+pub(crate) const RUNS: [Range; 6] = [ELEVATION, ELEVATION, VELOCITY, VELOCITY, WIND, WIND];
 
 /// The word of a float, with a NaN's own payload.
 pub(crate) fn word(value: f64) -> String {

@@ -23,7 +23,7 @@ fn strip(n: u16) -> Lent {
         .collect();
     lent.h = vec![8.0; usize::from(n)];
     lent.kind = vec![0; usize::from(n)];
-    lent.state = vec![0.0; 4 * usize::from(n)];
+    lent.state = vec![0.0; 6 * usize::from(n)];
     lent
 }
 
@@ -34,8 +34,8 @@ fn opening_writes_only_the_cold_state() {
     let rest = (bits(&lent.next), bits(&lent.work), lent.sums.clone());
     let (answer, clock) = lent.open();
     accepted(answer, 0);
-    same_clock(clock, Clock::COLD);
-    assert_eq!(bits(&lent.state), vec![0; 16]);
+    assert_eq!(clock, Clock::COLD);
+    assert_eq!(bits(&lent.state), vec![0; 24]);
     assert_eq!((bits(&lent.next), bits(&lent.work), lent.sums), rest);
 }
 
@@ -50,7 +50,7 @@ fn row_1_each_slice_short_or_long() {
         |lent| lent.kind.push(0),
         |lent| lent.tri.push(0),
         |lent| lent.tri.truncate(2),
-        |lent| lent.state.truncate(11),
+        |lent| lent.state.truncate(17),
         |lent| lent.state.push(0.0),
     ];
     for spoil in spoil {
@@ -58,20 +58,25 @@ fn row_1_each_slice_short_or_long() {
         spoil(&mut lent);
         lent.clone().open_refused(1, 0);
         lent.clone().step_refused(1, 0);
-        refused(lent.save(&mut [0; 289]), 1, 0);
+        refused(lent.save(&mut [0; 442]), 1, 0);
         refused(lent.load(&examples::cold_save()).0, 1, 0);
     }
 }
 
 #[test]
 fn row_1_rooms_of_a_step() {
-    let spoil: [fn(&mut Lent); 6] = [
-        |lent| lent.next.truncate(11),
+    let spoil: [fn(&mut Lent); 11] = [
+        |lent| lent.next.truncate(17),
+        |lent| lent.next.truncate(12),
         |lent| lent.next.push(0.0),
         |lent| lent.work.truncate(14),
         |lent| lent.work.push(0.0),
         |lent| lent.sums.truncate(2),
         |lent| lent.sums.push(0),
+        |lent| lent.forcing.truncate(6),
+        |lent| lent.forcing.truncate(3),
+        |lent| lent.forcing.clear(),
+        |lent| lent.forcing.push(0.0),
     ];
     for spoil in spoil {
         let mut lent = Lent::mesh_t();
@@ -99,7 +104,7 @@ fn row_1_runs_of_the_work_room() {
 
 #[test]
 fn any_lengths_are_answered() {
-    for code in 0..3_usize.pow(9) {
+    for code in 0..3_usize.pow(10) {
         let length = |slice: u32, right: usize| match (code / 3_usize.pow(slice)) % 3 {
             0 => 0,
             1 => right,
@@ -111,14 +116,15 @@ fn any_lengths_are_answered() {
         lent.tri.resize(length(2, 3), 0);
         lent.h.resize(length(3, 3), 8.0);
         lent.kind.resize(length(4, 3), 0);
-        lent.state.resize(length(5, 12), 0.0);
-        lent.next.resize(length(6, 12), 0.0);
+        lent.state.resize(length(5, 18), 0.0);
+        lent.next.resize(length(6, 18), 0.0);
         lent.work.resize(length(7, 15), 0.0);
         lent.sums.resize(length(8, 3), 0);
-        let whole = code == (3_usize.pow(9) - 1) / 2;
+        lent.forcing.resize(length(9, 7), 0.0);
+        let whole = code == (3_usize.pow(10) - 1) / 2;
         assert_eq!(lent.step().0.number == 0, whole);
         lent.open();
-        lent.save(&mut [0; 300]);
+        lent.save(&mut [0; 450]);
         lent.load(&examples::cold_save());
     }
 }
@@ -126,12 +132,12 @@ fn any_lengths_are_answered() {
 #[test]
 fn row_1_does_not_wrap() {
     let mesh = Mesh::lent(&X, &Y, &TRI, &H, &KIND, P);
-    let lent = |length, runs| crate::mesh::Lent { length, runs };
+    let lent = crate::mesh::Lent::runs;
     let wrapping = usize::MAX / 3 + 2;
     assert_eq!(wrapping.wrapping_mul(3), 5);
     let refusal = mesh.begin(&[lent(5, wrapping)]);
     refused(refusal.unwrap_err(), 1, 0);
-    assert!(mesh.begin(&[lent(12, 4)]).is_ok());
+    assert!(mesh.begin(&[lent(18, 6)]).is_ok());
 }
 
 #[test]
@@ -142,7 +148,7 @@ fn row_2_nodes() {
         lent.y.truncate(n);
         lent.h.truncate(n);
         lent.kind.truncate(n);
-        lent.state.truncate(4 * n);
+        lent.state.truncate(6 * n);
         lent.open_refused(2, 0);
     }
     accepted(strip(3).open().0, 0);
@@ -158,9 +164,9 @@ fn row_2_triangles() {
     let mut lent = Lent::mesh_t();
     lent.tri = TRI.repeat(8_192);
     lent.clone().open_refused(6, 1);
-    accepted(lent.save(&mut [0; 289]), 289);
+    accepted(lent.save(&mut [0; 442]), 442);
     lent.tri.extend(TRI);
-    refused(lent.save(&mut [0; 289]), 2, 0);
+    refused(lent.save(&mut [0; 442]), 2, 0);
     lent.open_refused(2, 0);
 }
 
@@ -257,8 +263,8 @@ fn row_6_is_tested_only_when_a_mesh_is_opened() {
     let mut lent = Lent::mesh_t();
     lent.tri = TRI.repeat(2);
     lent.clone().open_refused(6, 1);
-    let mut text = [0; 289];
-    accepted(lent.save(&mut text), 289);
+    let mut text = [0; 442];
+    accepted(lent.save(&mut text), 442);
     accepted(lent.load(&text).0, 0);
     lent.step_accepted();
 }

@@ -1,7 +1,7 @@
 //! Tests by the document's sections, on runs lent by [`Lent`].
 
 mod examples;
-mod frames;
+mod forcings;
 mod generate;
 mod grids;
 mod mesh;
@@ -13,7 +13,7 @@ mod step;
 
 use crate::printing::{H, KIND, P, TRI, X, Y};
 use crate::step::step;
-use crate::{load, open, save, Answer, Clock, Forcing, Parameters};
+use crate::{load, open, save, Answer, Clock, Parameters};
 
 /// What a lent number that no call may touch is filled with: a NaN's pattern
 /// that no operation gives.
@@ -32,8 +32,8 @@ struct Lent {
     next: Vec<f64>,
     work: Vec<f64>,
     sums: Vec<u64>,
+    forcing: Vec<f64>,
     clock: Clock,
-    forcing: Forcing,
 }
 
 impl Lent {
@@ -46,12 +46,12 @@ impl Lent {
             h: H.to_vec(),
             kind: KIND.to_vec(),
             p: P,
-            state: vec![0.0; 12],
-            next: vec![f64::from_bits(FILL); 12],
+            state: vec![0.0; 18],
+            next: vec![f64::from_bits(FILL); 18],
             work: vec![f64::from_bits(FILL); 15],
             sums: vec![FILL; 3],
+            forcing: vec![0.0; 7],
             clock: Clock::COLD,
-            forcing: Forcing::ZERO,
         }
     }
 
@@ -63,12 +63,19 @@ impl Lent {
             tri: vec![0, 1, 2, 0, 2, 3],
             h: vec![8.0; 4],
             kind: vec![0; 4],
-            state: vec![0.0; 16],
-            next: vec![f64::from_bits(FILL); 16],
+            state: vec![0.0; 24],
+            next: vec![f64::from_bits(FILL); 24],
             work: vec![f64::from_bits(FILL); 20],
             sums: vec![FILL; 4],
+            forcing: vec![0.0; 9],
             ..Lent::mesh_t()
         }
+    }
+
+    /// Sets a forcing with one wind for all nodes.
+    fn force(&mut self, elevation: f64, wx: f64, wy: f64) {
+        let n = self.x.len();
+        self.forcing = [vec![elevation], vec![wx; n], vec![wy; n]].concat();
     }
 
     fn open(&mut self) -> (Answer, Clock) {
@@ -82,6 +89,7 @@ impl Lent {
             &mut self.work,
             &mut self.sums,
             &self.state,
+            &self.forcing,
             &self.x,
             &self.y,
             &self.tri,
@@ -89,7 +97,6 @@ impl Lent {
             &self.kind,
             self.p,
             self.clock,
-            self.forcing,
         )
     }
 
@@ -105,10 +112,11 @@ impl Lent {
         load(&mut self.state, text, x, y, tri, h, &self.kind, p, clock)
     }
 
-    /// The patterns of every float slice and the clock's, and the sums: what a
-    /// refusal is to leave as found.
+    /// The patterns of every float slice, and the sums: what a refusal is to leave
+    /// as found.
     fn patterns(&self) -> Vec<u64> {
         let mut patterns = bits(&self.state);
+        patterns.extend(bits(&self.forcing));
         patterns.extend(bits(&self.next));
         patterns.extend(bits(&self.work));
         patterns.extend(&self.sums);
@@ -122,7 +130,7 @@ impl Lent {
         let found = self.patterns();
         let (answer, clock) = self.open();
         refused(answer, number, place);
-        same_clock(clock, Clock::COLD);
+        assert_eq!(clock, Clock::COLD);
         assert_eq!(self.patterns(), found);
     }
 
@@ -131,7 +139,7 @@ impl Lent {
         let (found, before) = (self.patterns(), self.clock);
         let (answer, clock) = self.step();
         refused(answer, number, place);
-        same_clock(clock, before);
+        assert_eq!(clock, before);
         assert_eq!(self.patterns(), found);
     }
 
@@ -142,7 +150,7 @@ impl Lent {
         let (answer, clock) = self.step();
         assert_eq!((answer.number, answer.place), (13, node));
         assert_eq!(answer.value.to_bits(), value.to_bits(), "{}", answer.value);
-        same_clock(clock, before);
+        assert_eq!(clock, before);
         assert_eq!(bits(&self.state), state);
         assert_eq!(bits(&self.next), next);
         self.work_room_is_zero();
@@ -155,8 +163,8 @@ impl Lent {
         accepted(answer, 0);
         assert_eq!(bits(&self.state), found);
         assert_eq!(clock.step, before.step + 1);
-        assert_eq!(clock.wx.to_bits(), self.forcing.wx.to_bits());
-        assert_eq!(clock.wy.to_bits(), self.forcing.wy.to_bits());
+        let n = self.x.len();
+        assert_eq!(bits(&self.next[4 * n..]), bits(&self.forcing[1..]));
         self.work_room_is_zero();
         self.state.copy_from_slice(&self.next);
         self.clock = clock;
@@ -170,11 +178,7 @@ impl Lent {
 
 /// A clock that no cold start has.
 fn busy_clock() -> Clock {
-    Clock {
-        step: 7,
-        wx: 0.0625,
-        wy: -0.03125,
-    }
+    Clock { step: 7 }
 }
 
 fn bits(numbers: &[f64]) -> Vec<u64> {
@@ -189,12 +193,6 @@ fn accepted(answer: Answer, place: usize) {
 fn refused(answer: Answer, number: u32, place: usize) {
     assert_eq!((answer.number, answer.place), (number, place));
     assert_eq!(answer.value.to_bits(), 0);
-}
-
-fn same_clock(clock: Clock, expected: Clock) {
-    assert_eq!(clock.step, expected.step);
-    assert_eq!(clock.wx.to_bits(), expected.wx.to_bits());
-    assert_eq!(clock.wy.to_bits(), expected.wy.to_bits());
 }
 
 /// The values outside a range by one bit on either side, and far outside it.
@@ -213,12 +211,28 @@ fn line(frame: &[u8]) -> Vec<u8> {
     text.into_bytes()
 }
 
-/// A forcing line.
-fn forcing_line(sequence: u16, numbers: [f64; 3]) -> Vec<u8> {
-    let mut frame = vec![0x10];
+/// A line of floats.
+fn line_with(kind: u8, sequence: u16, numbers: &[f64]) -> Vec<u8> {
+    let mut frame = vec![kind];
     frame.extend(sequence.to_be_bytes());
     for number in numbers {
         frame.extend(number.to_bits().to_be_bytes());
     }
     line(&frame)
+}
+
+/// A forcing line of kind 10.
+fn forcing_line(sequence: u16, numbers: [f64; 3]) -> Vec<u8> {
+    line_with(0x10, sequence, &numbers)
+}
+
+/// The lines of kinds 14 and 15 of a forcing.
+fn forcing_lines(forcing: &[f64]) -> Vec<Vec<u8>> {
+    let n = forcing.len() / 2;
+    let mut lines = vec![line_with(0x14, 0, &forcing[..1])];
+    for node in 0..n {
+        let wind = [forcing[1 + node], forcing[1 + n + node]];
+        lines.push(line_with(0x15, node as u16 + 1, &wind));
+    }
+    lines
 }

@@ -2,8 +2,8 @@
 //! the same in either case, in forcing lines and in loads. We still write upper
 //! case."
 
-use super::frames::{line_accepted, line_refused};
-use super::saves::{busy_t, frame_of, load_refused, text_of, with_line, LINES};
+use super::forcings::{line_accepted, line_refused};
+use super::saves::{busy_t, editions, load_refused, text_of};
 use super::*;
 use crate::frames::byte_of;
 use crate::generate::dice::Dice;
@@ -85,12 +85,44 @@ fn twenty_two_bytes_are_digits_and_no_other() {
     assert_eq!(byte_of(*b"Fe"), Some(0xFE));
 }
 
-/// What a forcing line gives: the answer's number and three patterns.
-fn reading(line: &[u8]) -> (u32, [u64; 3]) {
-    let (answer, forcing) = read_forcing(line, 0xABCD);
-    refused(answer, answer.number, 0);
-    let numbers = [forcing.elevation, forcing.wx, forcing.wy];
-    (answer.number, numbers.map(f64::to_bits))
+/// What forcing lines give: the answer's number and place, and the room.
+fn reading(lines: &[u8]) -> (u32, usize, Vec<u64>) {
+    let mut room = [f64::from_bits(FILL); 7];
+    let answer = read_forcing(&mut room, lines, 0xABCD);
+    refused(answer, answer.number, answer.place);
+    (answer.number, answer.place, bits(&room))
+}
+
+/// Kinds 14 and 15, with many letters in each number.
+#[test]
+fn a_forcing_by_node_in_every_spelling() {
+    let numbers = [
+        0xABCD_EFAB_CDEF_ABCD,
+        0xFEDC_BAFE_DCBA_FEDC,
+        0x3FBA_BEDE_ADBE_EFCA,
+        0xBFAD_CAFE_BABE_DEAD,
+        0x0BAD_CAFE_BABE_DEAD,
+        0x3FCC_CCCC_CCCC_CCCD,
+        0xBEEF_FEED_FACE_CAFE,
+    ];
+    let text = forcing_lines(&numbers.map(f64::from_bits)).concat();
+    let upper = reading(&text);
+    assert_eq!(upper, (0, 0, numbers.to_vec()));
+    for spelling in spellings(&text) {
+        assert_eq!(reading(&spelling), upper);
+    }
+    let mut numbers = Vec::new();
+    for place in (0..text.len()).filter(|&place| text[place] != b'\n') {
+        for &letter in LETTERS {
+            let changed = with_digit(&text, place, letter);
+            let upper = reading(&changed);
+            assert_eq!(reading(&lowered(&changed, &[place])), upper);
+            numbers.push(upper.0);
+        }
+    }
+    numbers.sort_unstable();
+    numbers.dedup();
+    assert_eq!(numbers, [0, 21]);
 }
 
 #[test]
@@ -133,7 +165,8 @@ fn each_digit_of_a_forcing_line_by_itself() {
     }
     numbers.sort_unstable();
     numbers.dedup();
-    assert_eq!(numbers, [0, 21, 22]);
+    // A line of another kind is measured as kind 14, and is too long.
+    assert_eq!(numbers, [0, 20, 21, 22]);
 }
 
 #[test]
@@ -153,19 +186,17 @@ fn rows_20_to_22_of_a_lower_case_forcing_line() {
         line_refused(&lower, other, 22);
     }
     for kind in [0x0A, 0xA0, 0x1A, 0xFF] {
-        let mut frame = [0; 27];
-        frame[0] = kind;
-        line_refused(&line(&frame).to_ascii_lowercase(), 0, 22);
+        let text = line_with(kind, 0, &[0.0]).to_ascii_lowercase();
+        line_refused(&text, 0, 22);
     }
 }
 
 /// What a load on T gives: answer, clock and state.
 fn loading(text: &[u8]) -> (u32, usize, u32, Vec<u64>) {
-    let mut lent = Lent::mesh_t();
+    let mut lent = busy_t();
     lent.state.fill(f64::from_bits(FILL));
     lent.clock = busy_clock();
     let (answer, clock) = lent.load(text);
-    lent.state.extend([clock.wx, clock.wy]);
     let (number, place) = (answer.number, answer.place);
     refused(answer, number, place);
     (number, place, clock.step, bits(&lent.state))
@@ -174,27 +205,33 @@ fn loading(text: &[u8]) -> (u32, usize, u32, Vec<u64>) {
 /// In every place of every line of a text, as in a forcing line.
 #[test]
 fn each_digit_of_a_load_by_itself() {
-    let text = text_of(&busy_t());
-    let mut numbers = Vec::new();
-    for (number, from) in LINES.into_iter().take(5).enumerate() {
-        let frame = frame_of(number);
-        for place in 0..2 * frame.len() + 2 {
-            for &letter in LETTERS {
-                let mut texts = vec![with_digit(&text, from + place, letter)];
-                if place < 2 * frame.len() {
-                    texts.push(with_line(number, &line_with_digit(&frame, place, letter)));
-                }
-                for text in texts {
-                    let upper = loading(&text);
-                    assert_eq!(loading(&lowered(&text, &[from + place])), upper);
-                    numbers.push(upper.0);
+    for (save, rows) in editions()
+        .into_iter()
+        .zip([&[0, 10, 20, 21, 22, 23][..], &[0, 10, 21, 22, 23, 25]])
+    {
+        let mut numbers = Vec::new();
+        for number in 0..=save.end() {
+            let (frame, from) = (save.frame_of(number), save.lines[number]);
+            for place in 0..2 * frame.len() + 2 {
+                for &letter in LETTERS {
+                    let mut texts = vec![with_digit(&save.text, from + place, letter)];
+                    if place < 2 * frame.len() {
+                        let other = line_with_digit(&frame, place, letter);
+                        texts.push(save.with_line(number, &other));
+                    }
+                    for text in texts {
+                        let upper = loading(&text);
+                        assert_eq!(loading(&lowered(&text, &[from + place])), upper);
+                        numbers.push(upper.0);
+                    }
                 }
             }
         }
+        numbers.sort_unstable();
+        numbers.dedup();
+        // A head of edition 1 with another kind is measured as edition 2's.
+        assert_eq!(numbers, rows);
     }
-    numbers.sort_unstable();
-    numbers.dedup();
-    assert_eq!(numbers, [0, 10, 12, 21, 22, 23]);
 }
 
 /// "A save has many readable spellings and one written form."
@@ -208,7 +245,8 @@ fn a_save_in_every_spelling_is_written_as_before() {
     for spelling in spellings(&text) {
         assert_ne!(spelling, text);
         assert_eq!(loading(&spelling), upper);
-        let mut other = Lent::mesh_t();
+        let mut other = busy_t();
+        other.state.fill(0.0);
         let (answer, clock) = other.load(&spelling);
         accepted(answer, 0);
         other.clock = clock;
@@ -217,11 +255,21 @@ fn a_save_in_every_spelling_is_written_as_before() {
 }
 
 #[test]
+fn an_edition_1_save_in_every_spelling_gives_the_same() {
+    let [one, _] = editions();
+    let upper = loading(&one.text);
+    assert_eq!((upper.0, upper.1), (0, 0));
+    for spelling in spellings(&one.text) {
+        assert_eq!(loading(&spelling), upper);
+    }
+}
+
+#[test]
 fn a_run_goes_on_from_any_spelling_with_the_same_bits() {
     let mut through = Lent::square();
     through.kind = vec![0, 1, 2, 0];
-    through.forcing.wx = 0.03;
-    through.forcing.elevation = 0.1;
+    through.force(0.1, 0.03, 0.0);
+    through.forcing[3] = -0.07;
     through.step_accepted();
     for spelling in spellings(&text_of(&through)) {
         let mut restarted = Lent::square();
@@ -229,7 +277,7 @@ fn a_run_goes_on_from_any_spelling_with_the_same_bits() {
         let (answer, clock) = restarted.load(&spelling);
         accepted(answer, 0);
         restarted.clock = clock;
-        restarted.forcing = through.forcing;
+        restarted.forcing = through.forcing.clone();
         restarted.step_accepted();
         let mut once_more = through.clone();
         once_more.step_accepted();
@@ -240,48 +288,50 @@ fn a_run_goes_on_from_any_spelling_with_the_same_bits() {
 
 #[test]
 fn rows_20_to_23_of_a_lower_case_load() {
-    let text = text_of(&busy_t()).to_ascii_lowercase();
-    let lines: Vec<&[u8]> = text.split_inclusive(|&byte| byte == b'\n').collect();
-    for (number, &right) in lines.iter().enumerate() {
-        let place = LINES[number];
-        for byte in *b"gG`@/:" {
-            load_refused(&with_digit(&text, place + 3, byte), 20, number);
-        }
-        let check = place + right.len() - 2;
-        for digit in b"0123456789abcdef" {
-            if *digit != text[check] {
-                load_refused(&with_digit(&text, check, *digit), 21, number);
+    for save in editions() {
+        let text = save.text.to_ascii_lowercase();
+        for number in 0..=save.end() {
+            let (place, after) = (save.lines[number], save.lines[number + 1]);
+            for byte in *b"gG`@/:" {
+                load_refused(&with_digit(&text, place + 3, byte), 20, number);
+            }
+            let check = after - 2;
+            for digit in b"0123456789abcdef" {
+                if *digit != text[check] {
+                    load_refused(&with_digit(&text, check, *digit), 21, number);
+                }
+            }
+            // Another kind in the head would be measured as edition 2's.
+            for (place, byte) in [(0, 0xFA), (1, 0xAB), (2, 0xEC)] {
+                if (number, place) != (0, 0) {
+                    let other = save.with_bytes(number, place, &[byte]);
+                    load_refused(&other.to_ascii_lowercase(), 22, number);
+                }
             }
         }
-        for (place, byte) in [(0, 0xFA), (1, 0xAB), (2, 0xEC)] {
-            let mut frame = frame_of(number);
-            frame[place] = byte;
-            let other = line(&frame).to_ascii_lowercase();
-            load_refused(&with_line(number, &other), 22, number);
+        for (number, place) in [(0, 3), (0, 4), (0, 5), (0, 6), (save.end(), 4)] {
+            let other = save.with_bytes(number, place, &[0xAF]);
+            load_refused(&other.to_ascii_lowercase(), 23, number);
         }
-    }
-    for (number, place) in [(0, 3), (0, 4), (0, 5), (0, 6), (4, 3), (4, 4)] {
-        let mut frame = frame_of(number);
-        frame[place] = 0xAF;
-        let other = line(&frame).to_ascii_lowercase();
-        load_refused(&with_line(number, &other), 23, number);
     }
 }
 
 #[test]
-fn rows_12_and_10_of_a_lower_case_load() {
+fn rows_25_and_10_of_a_lower_case_load() {
+    let [one, two] = editions();
     let beyond = [0.1, 30.0, 20.0].map(|limit: f64| limit.next_up().to_bits().to_be_bytes());
-    for (number, at, beyond, row, place) in [
-        (0, 11, beyond[0], 12, 0),
-        (0, 19, beyond[0], 12, 0),
-        (1, 3, beyond[1], 10, 0),
-        (2, 11, beyond[1], 10, 1),
-        (3, 19, beyond[2], 10, 2),
-        (3, 27, beyond[2], 10, 2),
+    for (save, number, at, beyond, row, place) in [
+        (&one, 0, 11, beyond[0], 10, 0),
+        (&one, 3, 27, beyond[2], 10, 2),
+        (&two, 1, 3, beyond[1], 25, 1),
+        (&two, 1, 35, beyond[1], 25, 1),
+        (&two, 2, 3, beyond[1], 10, 0),
+        (&two, 3, 11, beyond[1], 10, 1),
+        (&two, 4, 27, beyond[2], 10, 2),
+        (&two, 4, 35, beyond[0], 10, 2),
+        (&two, 3, 43, beyond[0], 10, 1),
     ] {
-        let mut frame = frame_of(number);
-        frame[at..at + 8].copy_from_slice(&beyond);
-        let text = with_line(number, &line(&frame)).to_ascii_lowercase();
+        let text = save.with_bytes(number, at, &beyond).to_ascii_lowercase();
         load_refused(&text, row, place);
     }
 }

@@ -4,14 +4,11 @@ use super::*;
 use crate::generate::dice::Dice;
 use crate::generate::values::{legal, Range};
 use crate::mesh::Mesh;
-use crate::step::{axes, new_values, State};
+use crate::step::{axes, new_values, Forcing, State, Winds};
 
 /// The smallest wind Wx' on T whose U' at U = 20 is one bit beyond 20:
 /// (Wx'/8)/2 is the distance between 20 and its next number.
 const ONE_BIT: f64 = 1.0 / 17_592_186_044_416.0;
-
-/// One of the numbers lent.
-type Field = fn(&mut Lent) -> &mut f64;
 
 /// T with one number of the state set, deep enough for any z.
 fn deep_t(run: usize, node: usize, value: f64) -> Lent {
@@ -21,7 +18,7 @@ fn deep_t(run: usize, node: usize, value: f64) -> Lent {
     lent
 }
 
-/// T with each run of the state the same at all nodes.
+/// T with each of the first runs of the state the same at all nodes.
 fn uniform(numbers: [f64; 4]) -> Lent {
     let mut lent = Lent::mesh_t();
     for (run, number) in numbers.into_iter().enumerate() {
@@ -35,23 +32,35 @@ fn fast(u: [f64; 3], v: [f64; 3]) -> Lent {
     let mut lent = Lent::mesh_t();
     lent.state[6..9].copy_from_slice(&u);
     lent.state[9..12].copy_from_slice(&v);
-    (lent.forcing.wx, lent.forcing.wy) = (ONE_BIT, ONE_BIT);
+    lent.force(0.0, ONE_BIT, ONE_BIT);
     lent
 }
 
 #[test]
 fn row_10_each_run_and_node() {
-    for (run, limit) in [(0, 30.0), (1, 30.0), (2, 20.0), (3, 20.0)] {
+    let limits = [30.0, 30.0, 20.0, 20.0, 0.1, 0.1];
+    for (run, limit) in limits.into_iter().enumerate() {
         for node in 0..3 {
             for value in outside(-limit, limit) {
                 deep_t(run, node, value).step_refused(10, node);
-                refused(deep_t(run, node, value).save(&mut [0; 289]), 10, node);
+                refused(deep_t(run, node, value).save(&mut [0; 442]), 10, node);
             }
             for value in [-limit, limit] {
-                accepted(deep_t(run, node, value).save(&mut [0; 289]), 289);
+                accepted(deep_t(run, node, value).save(&mut [0; 442]), 442);
             }
         }
     }
+}
+
+/// "Row 10 gains the node winds at 0.1, after U and V": node by node.
+#[test]
+fn row_10_winds_of_a_node_before_the_next_node() {
+    let mut lent = Lent::mesh_t();
+    lent.state[2] = f64::NAN;
+    lent.state[15 + 1] = 0.2;
+    lent.clone().step_refused(10, 1);
+    lent.state[12] = f64::NAN;
+    lent.step_refused(10, 0);
 }
 
 #[test]
@@ -64,14 +73,14 @@ fn row_10_column() {
         lent.state[3 + node] = below;
         lent.clone().step_refused(10, node);
         lent.state[3 + node] = above;
-        accepted(lent.save(&mut [0; 289]), 289);
+        accepted(lent.save(&mut [0; 442]), 442);
     }
 }
 
 #[test]
 fn row_10_column_is_of_the_present_elevation() {
     let lent = uniform([-30.0, 0.0, 0.0, 0.0]);
-    accepted(lent.save(&mut [0; 289]), 289);
+    accepted(lent.save(&mut [0; 442]), 442);
 }
 
 #[test]
@@ -87,27 +96,23 @@ fn row_11_last_step_number() {
     let mut lent = Lent::mesh_t();
     lent.clock.step = u32::MAX;
     lent.clone().step_refused(11, 0);
-    accepted(lent.save(&mut [0; 289]), 289);
+    accepted(lent.save(&mut [0; 442]), 442);
 }
 
+/// "with place 1 for the elevation and 2+i for node i".
 #[test]
 fn row_12_each_place() {
-    let fields: [(usize, f64, Field); 5] = [
-        (0, 0.1, |lent| &mut lent.clock.wx),
-        (0, 0.1, |lent| &mut lent.clock.wy),
-        (1, 30.0, |lent| &mut lent.forcing.elevation),
-        (2, 0.1, |lent| &mut lent.forcing.wx),
-        (3, 0.1, |lent| &mut lent.forcing.wy),
-    ];
-    for (place, limit, field) in fields {
+    let places = [1, 2, 3, 4, 2, 3, 4];
+    for (at, place) in places.into_iter().enumerate() {
+        let limit = if at == 0 { 30.0 } else { 0.1 };
         for value in outside(-limit, limit) {
             let mut lent = Lent::mesh_t();
-            *field(&mut lent) = value;
+            lent.forcing[at] = value;
             lent.step_refused(12, place);
         }
         for value in [-limit, limit] {
             let mut lent = Lent::mesh_t();
-            *field(&mut lent) = value;
+            lent.forcing[at] = value;
             lent.step_accepted();
         }
     }
@@ -116,20 +121,22 @@ fn row_12_each_place() {
 #[test]
 fn order_of_rows_10_to_12() {
     let mut lent = Lent::mesh_t();
-    lent.forcing.wy = 1.0;
+    lent.forcing[3] = 1.0;
+    lent.clone().step_refused(12, 4);
+    lent.forcing[5] = 1.0;
     lent.clone().step_refused(12, 3);
-    lent.forcing.wx = 1.0;
+    lent.forcing[1] = 1.0;
     lent.clone().step_refused(12, 2);
-    lent.forcing.elevation = 31.0;
+    lent.forcing[0] = 31.0;
     lent.clone().step_refused(12, 1);
-    lent.clock.wy = 1.0;
-    lent.clone().step_refused(12, 0);
     lent.clock.step = u32::MAX;
     lent.clone().step_refused(11, 0);
-    lent.state[11] = 21.0;
+    lent.state[17] = 0.2;
     lent.clone().step_refused(10, 2);
     lent.p.f = 1.0;
-    lent.step_refused(9, 3);
+    lent.clone().step_refused(9, 3);
+    lent.forcing.pop();
+    lent.step_refused(1, 0);
 }
 
 #[test]
@@ -154,9 +161,9 @@ fn row_13_column_at_an_open_node() {
     for node in 0..3 {
         let mut lent = Lent::mesh_t();
         lent.kind[node] = 1;
-        lent.forcing.elevation = -7.9;
+        lent.forcing[0] = -7.9;
         lent.clone().step_13(node, 8.0 - 7.9);
-        lent.forcing.elevation = (-7.9_f64).next_up();
+        lent.forcing[0] = (-7.9_f64).next_up();
         lent.step_accepted();
     }
 }
@@ -164,7 +171,7 @@ fn row_13_column_at_an_open_node() {
 #[test]
 fn row_13_elevations_go_node_by_node() {
     let mut lent = uniform([-2.0, 30.0, 0.0, 0.0]);
-    lent.forcing.elevation = -8.0;
+    lent.forcing[0] = -8.0;
     lent.kind[1] = 1;
     lent.clone().step_13(0, 62.0);
     lent.kind.swap(0, 1);
@@ -181,9 +188,9 @@ fn row_13_velocity_one_bit_beyond() {
         ([0.0, 0.0, 0.0, -20.0], [0.0, -ONE_BIT], -beyond),
     ] {
         let mut lent = uniform(numbers);
-        [lent.forcing.wx, lent.forcing.wy] = winds;
+        lent.force(0.0, winds[0], winds[1]);
         lent.clone().step_13(0, value);
-        [lent.forcing.wx, lent.forcing.wy] = winds.map(|wind| wind / 2.0);
+        lent.force(0.0, winds[0] / 2.0, winds[1] / 2.0);
         lent.step_accepted();
         assert_eq!((lent.state[6], lent.state[9]), (numbers[2], numbers[3]));
     }
@@ -194,9 +201,9 @@ fn row_13_velocities_go_node_by_node() {
     let beyond = 20.0_f64.next_up();
     fast([20.0; 3], [-20.0; 3]).step_13(0, beyond);
     let mut lent = fast([20.0; 3], [20.0; 3]);
-    lent.forcing.wy = 0.0625;
+    lent.force(0.0, ONE_BIT, 0.0625);
     lent.clone().step_13(0, beyond);
-    lent.forcing.wx = 0.0;
+    lent.force(0.0, 0.0, 0.0625);
     lent.step_13(0, 20.00390625);
     fast([0.0, 20.0, 20.0], [20.0, 0.0, 0.0]).step_13(0, beyond);
     fast([0.0, 0.0, 20.0], [0.0, 0.0, 0.0]).step_13(2, beyond);
@@ -206,7 +213,7 @@ fn row_13_velocities_go_node_by_node() {
 fn row_13_all_elevations_before_any_velocity() {
     let mut lent = fast([20.0; 3], [20.0; 3]);
     lent.kind[2] = 1;
-    lent.forcing.elevation = -8.0;
+    lent.forcing[0] = -8.0;
     lent.step_13(2, 0.0);
 }
 
@@ -214,20 +221,20 @@ fn row_13_all_elevations_before_any_velocity() {
 fn held_land_stays_at_rest() {
     let mut lent = fast([20.0; 3], [20.0; 3]);
     lent.kind.fill(2);
-    (lent.forcing.wx, lent.forcing.wy) = (-0.1, -0.0);
+    lent.force(0.0, -0.1, -0.0);
     lent.step_accepted();
-    assert_eq!(bits(&lent.state[6..]), [0; 6]);
+    assert_eq!(bits(&lent.state[6..12]), [0; 6]);
 }
 
 #[test]
 fn open_nodes_take_the_elevation_of_the_forcing() {
     let mut lent = Lent::square();
     lent.kind = vec![1, 0, 1, 0];
-    lent.forcing.elevation = -0.0;
+    lent.forcing[0] = -0.0;
     lent.step_accepted();
     let minus_zero = (-0.0_f64).to_bits();
     assert_eq!(bits(&lent.state[4..8]), [minus_zero, 0, minus_zero, 0]);
-    lent.forcing.elevation = 0.3;
+    lent.forcing[0] = 0.3;
     lent.step_accepted();
     assert_eq!(lent.state[4..8], [0.3, 0.0, 0.3, 0.0]);
 }
@@ -257,13 +264,10 @@ fn all_terms() -> Lent {
         0.75, 0.375, -0.25, 0.125, // z
         1.0, -0.5, 0.25, 2.0, // U
         -1.5, 0.75, 0.5, -0.25, // V
+        0.0625, 0.0625, 0.0625, 0.0625, // Wx
+        -0.03125, -0.03125, -0.03125, -0.03125, // Wy
     ];
-    (lent.clock.wx, lent.clock.wy) = (0.0625, -0.03125);
-    lent.forcing = Forcing {
-        elevation: 0.5,
-        wx: 0.03125,
-        wy: 0.046875,
-    };
+    lent.force(0.5, 0.03125, 0.046875);
     lent
 }
 
@@ -293,7 +297,7 @@ fn every_term_against_rational_arithmetic() {
             -0.08025482948687061,
         ],
     ];
-    for (number, value) in lent.state.iter().zip(expected.as_flattened()) {
+    for (number, value) in lent.state[..16].iter().zip(expected.as_flattened()) {
         assert!((number - value).abs() <= 1e-12, "{number} {value}");
     }
 }
@@ -392,8 +396,8 @@ fn gradients([v1, v2, v3]: [f64; 3]) -> [f64; 2] {
     ]
 }
 
-/// z' of T as "Elevation" has them, with advection in any place. D and S are
-/// 10,000.
+/// z' of T as "Elevation" has them, with advection in any place; by request #105
+/// "Jx and Jy use the mean of the three corner winds". D and S are 10,000.
 fn elevations(lent: &Lent, in_j: Place) -> [f64; 3] {
     let Parameters { dt, tau, k, f, .. } = lent.p;
     let nodes = [0, 1, 2];
@@ -409,8 +413,9 @@ fn elevations(lent: &Lent, in_j: Place) -> [f64; 3] {
     let term_v = (qx * xv + qy * yv) / 10_000.0;
     let jx = in_j(f * qy, term_u, (9.81 * sx) / 20_000.0);
     let jy = in_j((-f) * qx, term_v, (9.81 * sy) / 20_000.0);
-    let jx = (((jx + lent.clock.wx) - k * ub) + (ub * mean(star)) / dt) + tau * qx;
-    let jy = (((jy + lent.clock.wy) - k * vb) + (vb * mean(star)) / dt) + tau * qy;
+    let [wx, wy] = [4, 5].map(|run| mean(run_of(lent, run)));
+    let jx = (((jx + wx) - k * ub) + (ub * mean(star)) / dt) + tau * qx;
+    let jy = (((jy + wy) - k * vb) + (vb * mean(star)) / dt) + tau * qy;
     let l = (10_000.0 / 6.0) / dt;
     nodes.map(|i| {
         let (a, b) = ([-100.0, 0.0, 100.0][i], [-100.0, 100.0, 0.0][i]);
@@ -443,8 +448,8 @@ fn velocity(
     let (column, new_column) = (lent.h[node] + z[node], lent.h[node] + z_new[node]);
     let wind = |new: f64, present: f64| (dt * (new / new_column + present / column)) / 2.0;
     let (wx, wy) = (
-        wind(lent.forcing.wx, lent.clock.wx),
-        wind(lent.forcing.wy, lent.clock.wy),
+        wind(lent.forcing[1 + node], lent.state[12 + node]),
+        wind(lent.forcing[4 + node], lent.state[15 + node]),
     );
     let (u, v) = (lent.state[6 + node], lent.state[9 + node]);
     let rx = in_r((m * u + q * v) - slope(px), au, wx);
@@ -466,12 +471,11 @@ fn any_t(dice: &mut Dice, k: f64) -> Lent {
         f: any(-0.001, 0.001),
         advection: false,
     };
-    for (numbers, limit) in lent.state.chunks_mut(3).zip([1.0, 1.0, 20.0, 20.0]) {
+    let limits = [1.0, 1.0, 20.0, 20.0, 0.1, 0.1];
+    for (numbers, limit) in lent.state.chunks_mut(3).zip(limits) {
         numbers.fill_with(|| any(-limit, limit));
     }
-    let mut wind = || any(-0.1, 0.1);
-    (lent.clock.wx, lent.clock.wy) = (wind(), wind());
-    (lent.forcing.wx, lent.forcing.wy) = (wind(), wind());
+    lent.forcing[1..].fill_with(|| any(-0.1, 0.1));
     lent
 }
 
@@ -480,17 +484,11 @@ fn worked_out(lent: &Lent) -> (Vec<f64>, Vec<[u64; 2]>) {
     let (x, y, tri, h) = (&lent.x, &lent.y, &lent.tri, &lent.h);
     let mesh = Mesh::lent(x, y, tri, h, &lent.kind, lent.p);
     let (mut work, mut sums) = (lent.work.clone(), lent.sums.clone());
-    let (state, clock, axes) = (State::of(&lent.state), lent.clock, axes(lent.p.advection));
+    let (state, forcing) = (State::of(&lent.state), Forcing::of(&lent.forcing));
+    let (winds, axes) = (Winds::of(&state, &forcing), axes(lent.p.advection));
+    let elevation = forcing.elevation;
     // A refusal of U' or V' says no more than the values themselves.
-    let _ = new_values(
-        &mut work,
-        &mut sums,
-        &mesh,
-        &state,
-        clock,
-        lent.forcing,
-        axes,
-    );
+    let _ = new_values(&mut work, &mut sums, &mesh, &state, elevation, &winds, axes);
     let velocity = |node: usize| [work[3 + node], work[6 + node]].map(f64::to_bits);
     (work[..3].to_vec(), (0..3).map(velocity).collect())
 }
@@ -537,7 +535,7 @@ fn stream() -> Lent {
     let mut lent = Lent::mesh_t();
     (lent.x[1], lent.y[2]) = (96, 128);
     lent.p.advection = true;
-    lent.state[6..].copy_from_slice(&[1.0, 7.0, 4.0, 2.0, -1.0, 5.0]);
+    lent.state[6..12].copy_from_slice(&[1.0, 7.0, 4.0, 2.0, -1.0, 5.0]);
     lent
 }
 
@@ -567,7 +565,7 @@ fn advection_in_velocity_by_hand() {
     off.step_accepted();
     assert_eq!(off.state[6..], lent.state[6..]);
     lent.step_accepted();
-    let (u, v) = (lent.state[6..9].to_vec(), lent.state[9..].to_vec());
+    let (u, v) = (lent.state[6..9].to_vec(), lent.state[9..12].to_vec());
     assert_eq!(u, [1.0, 7.0, 4.0].map(|u| u - 19.0 / 32.0));
     assert_eq!(v, [2.0, -1.0, 5.0].map(|v| v + 5.0 / 32.0));
 }
@@ -581,7 +579,7 @@ fn the_sums_of_advection_go_over_the_triangles_of_a_node() {
     lent.kind.fill(1);
     lent.p.advection = true;
     let (u, v) = ([0.0, 3.0, 6.0, 3.0], [3.0, 0.0, 3.0, 6.0]);
-    lent.state[8..].copy_from_slice(&[u, v].concat());
+    lent.state[8..16].copy_from_slice(&[u, v].concat());
     lent.step_accepted();
     let (both, one) = (32_768.0, 16_384.0);
     let taken_u = [4_608.0 / both, 1_920.0 / one, 4_608.0 / both, 2_688.0 / one];
@@ -642,7 +640,7 @@ fn off_gives_the_earlier_bits_on_any_state() {
 fn advection_of_even_water_is_nothing() {
     for numbers in [[0.0; 4], [0.0, 0.0, 5.0, -7.0], [0.25, 0.5, 0.0, 0.0]] {
         let mut on = uniform(numbers);
-        on.forcing.wx = 0.0625;
+        on.force(0.0, 0.0625, 0.0);
         let mut off = on.clone();
         on.p.advection = true;
         on.step_accepted();
@@ -699,8 +697,8 @@ fn refusals_leave_the_work_room_of_either_setting() {
     for advection in [false, true] {
         let mut lent = stream();
         lent.p.advection = advection;
-        lent.clock.wx = 1.0;
-        lent.clone().step_refused(12, 0);
+        lent.forcing[6] = 1.0;
+        lent.clone().step_refused(12, 4);
         lent.clock.step = u32::MAX;
         lent.clone().step_refused(11, 0);
         lent.state[8] = 21.0;
@@ -719,4 +717,62 @@ fn advection_leaves_held_land_at_rest() {
     lent.step_accepted();
     assert_eq!(bits(&[lent.state[7], lent.state[10]]), [0; 2]);
     assert_ne!(lent.state[6], 1.0);
+}
+
+/// READINGS: "mean of 0.1, 0.1, 0.1 is 0.10000000000000002", so that one wind
+/// everywhere is not the same as that wind in J.
+#[test]
+fn the_mean_of_equal_winds_need_not_be_that_wind() {
+    assert_eq!(mean([0.1; 3]), 0.10000000000000002);
+    assert_ne!(mean([0.1; 3]), 0.1);
+}
+
+/// On T at rest J is the mean wind alone, and R of node 1 is (Jx·100)/2: with winds
+/// of 3/64, 0 and 0 the mean is 1/64, whichever corner has them.
+#[test]
+fn elevation_by_the_mean_of_the_corners() {
+    for node in 0..3 {
+        let mut lent = Lent::mesh_t();
+        lent.state[12 + node] = 3.0 / 64.0;
+        let mut along_y = Lent::mesh_t();
+        along_y.state[15 + node] = 3.0 / 64.0;
+        lent.step_accepted();
+        along_y.step_accepted();
+        let rise = (100.0 / 64.0) / 2.0 / (10_000.0 / 6.0);
+        for (found, expected) in [
+            (&lent.state[3..6], [-rise, rise, 0.0]),
+            (&along_y.state[3..6], [-rise, 0.0, rise]),
+        ] {
+            for (number, value) in found.iter().zip(expected) {
+                assert!((number - value).abs() < 1e-15, "{number} {value}");
+            }
+        }
+    }
+}
+
+/// "velocity uses the node's own": on an open T at rest U' is (dt·(Wx'/H' +
+/// Wx/H))/2, and V' likewise.
+#[test]
+fn velocity_by_the_winds_of_the_node() {
+    let mut lent = Lent::mesh_t();
+    lent.kind.fill(1);
+    let winds = [0.0625, -0.03125, 0.015625, -0.0078125, 0.046875, -0.0];
+    lent.state[12..].copy_from_slice(&winds);
+    let new = [0.03125, 0.0, -0.0625, 0.09375, -0.015625, 0.0078125];
+    lent.forcing[1..].copy_from_slice(&new);
+    lent.step_accepted();
+    for at in 0..6 {
+        assert_eq!(lent.state[6 + at], (new[at] / 8.0 + winds[at] / 8.0) / 2.0);
+    }
+}
+
+/// "The next state is z, z', U', V'", and the winds of the forcing, -0 and all.
+#[test]
+fn the_winds_of_the_forcing_become_the_present_ones() {
+    let mut lent = Lent::square();
+    lent.state[16..].fill(0.05);
+    lent.forcing = vec![0.0, -0.0, 0.1, -0.1, 0.0, 5e-324, -0.0, 0.02, -0.03];
+    let found = bits(&lent.forcing[1..]);
+    lent.step_accepted();
+    assert_eq!(bits(&lent.state[16..]), found);
 }

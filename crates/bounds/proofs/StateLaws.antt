@@ -43,7 +43,7 @@ module _ (asked : Answer) (m : Mesh) (p : Parameters) (state : List Float) where
         bounds = λ i l. row-passed _ 9 i (scan-clean _ (N m) (then-rest _ _ ok) i l);
       }
 
--- a state of four runs with every node in bounds, on a mesh that its rows accept
+-- a state of six runs with every node in bounds, on a mesh that its rows accept
 pub in-bounds : (m : Mesh) (p : Parameters) (state : List Float) → meshRows accepted m p .number ≡ 0 → length state ≡ stateRuns * N m
     → ((i : ℕ) → i < N m → inBounds (nodeOf (N m) (m .h) state i) ≡ true) → runRows accepted m p state .number ≡ 0
 unfolding runRows row10

@@ -1,4 +1,6 @@
-// The state: the mesh's rows and row 10, in the document's order.
+// The state and a forcing: the mesh's rows and row 10, and row 12, in the document's order.
+pub(crate) mod forcing;
+
 use lists::slices;
 use quantities::Node;
 use quantities::Parameters;
@@ -9,9 +11,10 @@ ghost use lib.ListN.{length};
 ghost use Rattle.rows.specs.Scan.{scan};
 ghost use Rattle.mesh.specs.Lent.{mesh};
 ghost use Rattle.bounds.specs.State.{stateRuns, nodeOf, row10, runRows};
+ghost use Rattle.bounds.specs.Forcing.{forcedRows};
 
-// The runs of a state: earlier elevation, present elevation, U, V.
-pub const STATE_RUNS: usize = 4;
+// The runs of a state: earlier elevation, present elevation, U, V, Wx, Wy.
+pub const STATE_RUNS: usize = 6;
 
 // Node i of n, as the state has it.
 fn node_of(n: usize, h: &[f64], state: &[f64], i: usize) -> Node
@@ -24,6 +27,8 @@ fn node_of(n: usize, h: &[f64], state: &[f64], i: usize) -> Node
         z: state[1 * n + i],
         u: state[2 * n + i],
         v: state[3 * n + i],
+        wx: state[4 * n + i],
+        wy: state[5 * n + i],
     }
 }
 
@@ -75,4 +80,28 @@ pub fn run_rows(
         return lent;
     }
     nodes(x.len(), h, state)
+}
+
+// What a step tests before anything is worked out: the run's rows with the forcing's length among those of row 1, what else was tested, then row 12.
+pub fn forced_rows(
+    asked: Answer,
+    x: &[i32],
+    y: &[i32],
+    tri: &[u16],
+    h: &[f64],
+    kind: &[u8],
+    p: Parameters,
+    state: &[f64],
+    also: Answer,
+    f: &[f64],
+) -> Answer
+    ensures { λ r. ⌜ r ≡ forcedRows asked (mesh (now (x .entry)) (now (y .entry)) (now (tri .entry)) (now (h .entry)) (now (kind .entry))) p (now (state .entry)) also (now (f .entry)) ⌝ }
+{
+    let long = rows::tested(forcing::is_forcing(x.len(), f), 1, 0);
+    let run = run_rows(rows::first(asked, long), x, y, tri, h, kind, p, state);
+    let first = rows::first(run, also);
+    if first.number != 0 {
+        return first;
+    }
+    forcing::forcing_rows(x.len(), f)
 }

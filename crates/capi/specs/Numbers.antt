@@ -7,19 +7,14 @@ use lib.Ieee.{Float}
 use Rattle.rows.specs.declared.Answer.{Answer}
 use Rattle.quantities.specs.declared.Parameters.{Parameters}
 use Rattle.surge.specs.declared.Clock.{Clock}
-use Rattle.quantities.specs.declared.Forcing.{Forcing}
 use Rattle.surge.specs.declared.Reply.{Reply}
-use Rattle.forcings.specs.declared.Taken.{Taken}
 
 -- The setting crosses as a byte: 0 is off, every other value on.
 abbrev pub parameters : Float → Float → Float → Float → ℕ → Parameters
 parameters dt tau k f advection = record { dt = dt; tau = tau; k = k; f = f; advection = not (eqb advection 0) }
 
-abbrev pub clock : ℕ → Float → Float → Clock
-clock step wx wy = record { step = step; wx = wx; wy = wy }
-
-abbrev pub forcing : Float → Float → Float → Forcing
-forcing elevation wx wy = record { elevation = elevation; wx = wx; wy = wy }
+abbrev pub clock : ℕ → Clock
+clock step = record { step = step }
 
 -- the number is the function's result; the place and the value go through a pointer each
 abbrev pub answer : ℕ → ℕ → Float → Answer
@@ -27,6 +22,3 @@ answer number place value = record { number = number; place = place; value = val
 
 abbrev pub reply : Answer → Clock → Reply
 reply a k = record { answer = a; clock = k }
-
-abbrev pub taken : Answer → Forcing → Taken
-taken a f = record { answer = a; forcing = f }

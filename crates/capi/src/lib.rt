@@ -1,7 +1,6 @@
 // The calls on a run, for C programs to link: include/surge.h declares them. Each is the product's call of the same name. A slice crosses as a pointer
 // and a length, and a record as the numbers that it holds: those that come back, or go in and come back, through a pointer each, the others as
 // themselves. The refusal number is the result. No length is tested here: the product's row 1 does it, so a call answers exactly as the product's.
-use quantities::Forcing;
 use quantities::Parameters;
 use surge::Clock;
 use surge::Reply;
@@ -13,9 +12,9 @@ ghost use Rattle.surge.specs.Step.{stepOut, stepOf};
 ghost use Rattle.passes.specs.Settle.{lentRooms};
 ghost use Rattle.saves.specs.Save.{saveOut, saveOf};
 ghost use Rattle.loads.specs.Load.{loadOf};
-ghost use Rattle.forcings.specs.Forcings.{takenOf};
+ghost use Rattle.forcings.specs.Forcings.{taken, takenOf};
 ghost use Rattle.grids.specs.Grid.{grid, readOut, readOf};
-ghost use Rattle.capi.specs.Numbers.{parameters, clock, forcing, answer, reply, taken};
+ghost use Rattle.capi.specs.Numbers.{parameters, clock, answer, reply};
 
 // The setting of advection crosses as a byte: 0 is off, every other value on.
 fn parameters(dt: f64, tau: f64, k: f64, f: f64, advection: u8) -> Parameters
@@ -31,21 +30,12 @@ fn parameters(dt: f64, tau: f64, k: f64, f: f64, advection: u8) -> Parameters
 }
 
 // Hands back what a call on a run replies: all but the number through pointers.
-fn hand_back(
-    place: &mut usize,
-    value: &mut f64,
-    step: &mut u32,
-    wx: &mut f64,
-    wy: &mut f64,
-    r: Reply,
-) -> u32
-    ensures { λ n. ⌜ reply (answer n (now (place .exit)) (now (value .exit))) (clock (now (step .exit)) (now (wx .exit)) (now (wy .exit))) ≡ r ⌝ }
+fn hand_back(place: &mut usize, value: &mut f64, step: &mut u32, r: Reply) -> u32
+    ensures { λ n. ⌜ reply (answer n (now (place .exit)) (now (value .exit))) (clock (now (step .exit))) ≡ r ⌝ }
 {
     *place = r.answer.place;
     *value = r.answer.value;
     *step = r.clock.step;
-    *wx = r.clock.wx;
-    *wy = r.clock.wy;
     r.answer.number
 }
 
@@ -56,8 +46,6 @@ pub extern "C" fn surge_open(
     place: &mut usize,
     value: &mut f64,
     step: &mut u32,
-    wx: &mut f64,
-    wy: &mut f64,
     x: &[i32],
     y: &[i32],
     tri: &[u16],
@@ -69,14 +57,14 @@ pub extern "C" fn surge_open(
     f: f64,
     advection: u8,
 ) -> u32
-    ensures { λ r. ⌜ after (reply (answer r (now (place .exit)) (now (value .exit))) (clock (now (step .exit)) (now (wx .exit)) (now (wy .exit)))) (now (state .exit)) ≡ openOf (mesh (now (x .entry)) (now (y .entry)) (now (tri .entry)) (now (h .entry)) (now (kind .entry))) (parameters dt tau k f advection) (now (state .entry)) ⌝ }
+    ensures { λ r. ⌜ after (reply (answer r (now (place .exit)) (now (value .exit))) (clock (now (step .exit)))) (now (state .exit)) ≡ openOf (mesh (now (x .entry)) (now (y .entry)) (now (tri .entry)) (now (h .entry)) (now (kind .entry))) (parameters dt tau k f advection) (now (state .entry)) ⌝ }
 {
     let p = parameters(dt, tau, k, f, advection);
     let opened = surge::open(state, x, y, tri, h, kind, p);
-    hand_back(place, value, step, wx, wy, opened)
+    hand_back(place, value, step, opened)
 }
 
-// Steps. The clock goes in and comes back; the new wind goes in beside it.
+// Steps. The clock goes in and comes back.
 #[no_mangle]
 pub extern "C" fn surge_step(
     next: &mut [f64],
@@ -85,9 +73,8 @@ pub extern "C" fn surge_step(
     place: &mut usize,
     value: &mut f64,
     step: &mut u32,
-    wx: &mut f64,
-    wy: &mut f64,
     state: &[f64],
+    forcing: &[f64],
     x: &[i32],
     y: &[i32],
     tri: &[u16],
@@ -98,25 +85,13 @@ pub extern "C" fn surge_step(
     k: f64,
     f: f64,
     advection: u8,
-    elevation: f64,
-    wx_new: f64,
-    wy_new: f64,
 ) -> u32
-    ensures { λ r. ⌜ stepOut (reply (answer r (now (place .exit)) (now (value .exit))) (clock (now (step .exit)) (now (wx .exit)) (now (wy .exit)))) (now (next .exit)) (now (work .exit)) (now (sums .exit)) ≡ stepOf (mesh (now (x .entry)) (now (y .entry)) (now (tri .entry)) (now (h .entry)) (now (kind .entry))) (parameters dt tau k f advection) (run (now (state .entry)) (clock (now (step .entry)) (now (wx .entry)) (now (wy .entry)))) (forcing elevation «wx_new» «wy_new») (lentRooms (now (next .entry)) (now (work .entry)) (now (sums .entry))) ⌝ }
+    ensures { λ r. ⌜ stepOut (reply (answer r (now (place .exit)) (now (value .exit))) (clock (now (step .exit)))) (now (next .exit)) (now (work .exit)) (now (sums .exit)) ≡ stepOf (mesh (now (x .entry)) (now (y .entry)) (now (tri .entry)) (now (h .entry)) (now (kind .entry))) (parameters dt tau k f advection) (run (now (state .entry)) (clock (now (step .entry)))) (now (forcing .entry)) (lentRooms (now (next .entry)) (now (work .entry)) (now (sums .entry))) ⌝ }
 {
     let p = parameters(dt, tau, k, f, advection);
-    let c = Clock {
-        step: *step,
-        wx: *wx,
-        wy: *wy,
-    };
-    let new = Forcing {
-        elevation,
-        wx: wx_new,
-        wy: wy_new,
-    };
-    let stepped = surge::step(next, work, sums, state, x, y, tri, h, kind, p, c, new);
-    hand_back(place, value, step, wx, wy, stepped)
+    let c = Clock { step: *step };
+    let stepped = surge::step(next, work, sums, state, forcing, x, y, tri, h, kind, p, c);
+    hand_back(place, value, step, stepped)
 }
 
 // Saves. The clock only goes in; the place of an accepted answer is the bytes written.
@@ -137,13 +112,11 @@ pub extern "C" fn surge_save(
     f: f64,
     advection: u8,
     step: u32,
-    wx: f64,
-    wy: f64,
 ) -> u32
-    ensures { λ r. ⌜ saveOut (answer r (now (place .exit)) (now (value .exit))) (now (text .exit)) ≡ saveOf (mesh (now (x .entry)) (now (y .entry)) (now (tri .entry)) (now (h .entry)) (now (kind .entry))) (parameters dt tau k f advection) (now (state .entry)) (clock step wx wy) (now (text .entry)) ⌝ }
+    ensures { λ r. ⌜ saveOut (answer r (now (place .exit)) (now (value .exit))) (now (text .exit)) ≡ saveOf (mesh (now (x .entry)) (now (y .entry)) (now (tri .entry)) (now (h .entry)) (now (kind .entry))) (parameters dt tau k f advection) (now (state .entry)) (clock step) (now (text .entry)) ⌝ }
 {
     let p = parameters(dt, tau, k, f, advection);
-    let c = Clock { step, wx, wy };
+    let c = Clock { step };
     let saved = saves::save(text, state, x, y, tri, h, kind, p, c);
     *place = saved.place;
     *value = saved.value;
@@ -157,8 +130,6 @@ pub extern "C" fn surge_load(
     place: &mut usize,
     value: &mut f64,
     step: &mut u32,
-    wx: &mut f64,
-    wy: &mut f64,
     text: &[u8],
     x: &[i32],
     y: &[i32],
@@ -171,38 +142,29 @@ pub extern "C" fn surge_load(
     f: f64,
     advection: u8,
 ) -> u32
-    ensures { λ r. ⌜ after (reply (answer r (now (place .exit)) (now (value .exit))) (clock (now (step .exit)) (now (wx .exit)) (now (wy .exit)))) (now (state .exit)) ≡ loadOf (mesh (now (x .entry)) (now (y .entry)) (now (tri .entry)) (now (h .entry)) (now (kind .entry))) (parameters dt tau k f advection) (now (text .entry)) (now (state .entry)) (clock (now (step .entry)) (now (wx .entry)) (now (wy .entry))) ⌝ }
+    ensures { λ r. ⌜ after (reply (answer r (now (place .exit)) (now (value .exit))) (clock (now (step .exit)))) (now (state .exit)) ≡ loadOf (mesh (now (x .entry)) (now (y .entry)) (now (tri .entry)) (now (h .entry)) (now (kind .entry))) (parameters dt tau k f advection) (now (text .entry)) (now (state .entry)) (clock (now (step .entry))) ⌝ }
 {
     let p = parameters(dt, tau, k, f, advection);
-    let c = Clock {
-        step: *step,
-        wx: *wx,
-        wy: *wy,
-    };
+    let c = Clock { step: *step };
     let loaded = loads::load(state, text, x, y, tri, h, kind, p, c);
-    hand_back(place, value, step, wx, wy, loaded)
+    hand_back(place, value, step, loaded)
 }
 
-// Reads one forcing line. The forcing only comes back: three +0 where the line is refused.
+// Reads a forcing into a room. The room is written only where the reading is accepted.
 #[no_mangle]
 pub extern "C" fn surge_read_forcing(
+    forcing: &mut [f64],
     place: &mut usize,
     value: &mut f64,
-    elevation: &mut f64,
-    wx: &mut f64,
-    wy: &mut f64,
-    line: &[u8],
+    text: &[u8],
     expected: u32,
 ) -> u32
-    ensures { λ r. ⌜ taken (answer r (now (place .exit)) (now (value .exit))) (forcing (now (elevation .exit)) (now (wx .exit)) (now (wy .exit))) ≡ takenOf (now (line .entry)) expected ⌝ }
+    ensures { λ r. ⌜ taken (answer r (now (place .exit)) (now (value .exit))) (now (forcing .exit)) ≡ takenOf (now (forcing .entry)) (now (text .entry)) expected ⌝ }
 {
-    let read = forcings::read_forcing(line, expected);
-    *place = read.answer.place;
-    *value = read.answer.value;
-    *elevation = read.forcing.elevation;
-    *wx = read.forcing.wx;
-    *wy = read.forcing.wy;
-    read.answer.number
+    let taken = forcings::read_forcing(forcing, text, expected);
+    *place = taken.place;
+    *value = taken.value;
+    taken.number
 }
 
 // Reads a grid file into the rooms of a mesh.

@@ -9,7 +9,6 @@ use Rattle.quantities.specs.declared.Parameters.{Parameters}
 use Rattle.surge.specs.declared.Clock.{Clock}
 use Rattle.mesh.specs.Lent.{Mesh}
 use Rattle.surge.specs.Open.{openOf}
-use Rattle.quantities.specs.declared.Forcing.{Forcing}
 use Rattle.surge.specs.Lent.{Run}
 use Rattle.passes.specs.Equations.{nextState}
 use Rattle.surge.specs.Step.{givenOf, advance, refusedBefore, refusedBy13, wentOn, stepOf}
@@ -32,7 +31,7 @@ open-says m p state = record {
 }
 
 -- ---- step
-module _ (m : Mesh) (p : Parameters) (s : Run) (f : Forcing) (r : Rooms) where
+module _ (m : Mesh) (p : Parameters) (s : Run) (f : List Float) (r : Rooms) where
   refused-before : Refuses (early m p s f r) → StepSays m p s f r (refusedBefore m p s f r (early m p s f r))
   refused-before h = record {
     answer = sym (then-stop (early m p s f r) (late m p s f r) h);
@@ -83,9 +82,9 @@ load-says m p t state k =
     (λ h. record { answer = refl; accepted = λ _. (refl, refl); refused = λ n. absurd (n h) })
     (λ h. record { answer = refl; accepted = λ e. absurd (h e); refused = λ _. (refl, refl) })
 
-forcing-says : (line : List ℕ) (expected : ℕ) → ForcingSays line expected (takenOf line expected)
+forcing-says : (room : List Float) (t : List ℕ) (expected : ℕ) → ForcingSays room t expected (takenOf room t expected)
 unfolding takenOf
-forcing-says line expected = record { answer = refl; accepted = λ h. rw (eq-eqb _ _ h); refused = λ h. rw (ne-eqb _ _ h) }
+forcing-says room t expected = record { answer = refl; accepted = λ h. rw (eq-eqb _ _ h); refused = λ h. rw (ne-eqb _ _ h) }
 
 -- ---- and of every outcome that meets the contract, since it is the one of the definition (Demand2)
 pub demand1 : Demand1
@@ -94,10 +93,10 @@ demand1 = record {
   surge·step = λ κs a x v met. subst (StepSays _ _ _ _ _) (sym met) (step-says _ _ _ _ _);
   saves·save = λ κs a x v met. subst (SaveSays _ _ _ _ _) (sym met) (save-says _ _ _ _ _);
   loads·load = λ κs a x v met. subst (LoadSays _ _ _ _ _) (sym met) (load-says _ _ _ _ _);
-  forcings·read-forcing = λ κs a x v met. subst (ForcingSays _ _) (sym met) (forcing-says _ _);
+  forcings·read-forcing = λ κs a x v met. subst (ForcingSays _ _ _) (sym met) (forcing-says _ _ _);
   capi·surge-open = λ κs a x v met. subst (OpenSays _ _ _) (sym met) (open-says _ _ _);
   capi·surge-step = λ κs a x v met. subst (StepSays _ _ _ _ _) (sym met) (step-says _ _ _ _ _);
   capi·surge-save = λ κs a x v met. subst (SaveSays _ _ _ _ _) (sym met) (save-says _ _ _ _ _);
   capi·surge-load = λ κs a x v met. subst (LoadSays _ _ _ _ _) (sym met) (load-says _ _ _ _ _);
-  capi·surge-read-forcing = λ κs a x v met. subst (ForcingSays _ _) (sym met) (forcing-says _ _);
+  capi·surge-read-forcing = λ κs a x v met. subst (ForcingSays _ _ _) (sym met) (forcing-says _ _ _);
 }

@@ -9,37 +9,35 @@ use lib.Ieee.{Float}
 use Rattle.quantities.specs.declared.Parameters.{Parameters}
 use Rattle.mesh.specs.Lent.{Mesh, N}
 use Rattle.rows.specs.Scan.{accepted}
-use Rattle.surge.specs.Lent.{Run, run, After, windOf}
+use Rattle.surge.specs.Lent.{Run, run, After}
 use Rattle.nodes.specs.Rows.{meshRows}
 use Rattle.surge.specs.Open.{openAnswer, openOf}
-use Rattle.limits.specs.Limits.{row12Held}
 use Rattle.bounds.specs.State.{stateRuns, runRows}
 use Rattle.surge.specs.Step.{StepOut, advance}
 use Rattle.passes.specs.Settle.{Rooms}
 use Rattle.surge.proofs.StepLaws.{not-last, went-on, stayed}
-use Rattle.surge.proofs.NextLaws.{next-rows, next-wind}
-use Rattle.surge.proofs.ColdLaws.{cold-rows, cold-wind, opened-mesh}
-use Rattle.loads.specs.Storable.{StorableState, StorableClock}
+use Rattle.surge.proofs.NextLaws.{next-rows}
+use Rattle.surge.proofs.ColdLaws.{cold-rows, opened-mesh}
+use Rattle.loads.specs.Storable.{StorableState, StorableClock, StorableParameters}
 use Rattle.loads.proofs.OwnLaws.{saved-loaded}
-use Rattle.loads.proofs.StorableLaws.{clock-storable, state-storable, cold-clock-storable, cold-state-storable, next-state-storable, next-clock-storable}
+use Rattle.loads.proofs.StorableLaws.{past-fit, clock-storable, state-storable, cold-clock-storable, cold-state-storable, next-state-storable, next-clock-storable}
 use Rattle.saves.proofs.SaveLaws.{save-accepts}
-use Rattle.loads.specs.Load.{clockOf, loadAnswer, loadedState, loadOf}
-use Rattle.loads.proofs.LoadLaws.{load-took, load-stayed, load-long, loaded-rows, loaded-wind}
+use Rattle.loads.specs.Load.{editionOf, clockIn, loadAnswer, stateIn, loadOf}
+use Rattle.loads.proofs.LoadLaws.{load-took, load-stayed, load-long, loaded-rows}
 use Rattle.history.specs.History.{Reply, Call, history, Laws}
 use Rattle.history.proofs.Demand3.{demand3, held-good, any-save-of-a-text}
 use Rattle.demands.specs.RoundTrip.{gives}
 use Rattle.demands.specs.Demand3.{Weather, accepts, coldRun, Into, itself, other, lent, stateAfter, stepped, saved, loaded, surge, Demand3AtSurge, AnySaveAtSurge, OpensCold, OwnSavesLoad, HeldRunsSave}
 
-module _ (m : Mesh) (p : Parameters) where
-  -- a run that these calls can hold: four runs of N binary64, a clock that a head can hold, and rows 10 and 12 pass (10 where the mesh passes 1 to 9)
+module _ (m : Mesh) (p : Parameters) (sp : StorableParameters p) where
+  -- a run that these calls can hold: six runs of N binary64, a clock that a head can hold, and row 10 passes where the mesh passes 1 to 9
   record Good (r : Run) : Type 0 where
     state : StorableState (N m) (r .state)
     clock : StorableClock (r .clock)
     bounds : meshRows accepted m p .number ≡ 0 → runRows accepted m p (r .state) .number ≡ 0
-    wind : row12Held (windOf (r .clock)) .number ≡ 0
 
   good-cold : Good (coldRun m)
-  good-cold = record { state = cold-state-storable (N m); clock = cold-clock-storable; bounds = cold-rows m p; wind = cold-wind }
+  good-cold = record { state = cold-state-storable (N m); clock = cold-clock-storable; bounds = cold-rows m p }
 
   -- ---- a step
   module _ (r : Run) (f : Weather) (rooms : Rooms) where
@@ -51,10 +49,9 @@ module _ (m : Mesh) (p : Parameters) where
         let w = went-on m p r (f .forcing) rooms e in (
           rw e (ap (λ (o : StepOut). run (o .rooms .next) (o .reply .clock)) (w .out)),
           record {
-            state = next-state-storable m p r (f .forcing) (f .elevation) (g .state);
-            clock = next-clock-storable m p r (f .forcing) (f .elevation) (f .wx) (f .wy) (not-last m p r (f .forcing) rooms (w .first)) (g .clock);
+            state = next-state-storable m p r (f .forcing) (past-fit (f .forcing) (f .values)) (g .state);
+            clock = next-clock-storable m p r (f .forcing) (past-fit (f .forcing) (f .values)) (not-last m p r (f .forcing) rooms (w .first)) (g .clock);
             bounds = λ _. next-rows m p r (f .forcing) rooms (w .first) (w .last);
-            wind = next-wind m p r (f .forcing) rooms (w .first) (w .last);
           },
         )
 
@@ -66,12 +63,11 @@ module _ (m : Mesh) (p : Parameters) where
   left o = run (o .state) (o .reply .clock)
 
   -- a run of a text whose load was accepted is good
-  text-good : (t : List ℕ) (state : List Float) → loadAnswer m p t state .number ≡ 0 → Good (run (loadedState (N m) (m .h) t) (clockOf (N m) t))
+  text-good : (t : List ℕ) (state : List Float) → loadAnswer m p t state .number ≡ 0 → Good (run (stateIn (editionOf t) (N m) t (m .h)) (clockIn (editionOf t) (N m) t))
   text-good t state ok = record {
-    state = state-storable (N m) (m .h) t;
-    clock = clock-storable (N m) t;
+    state = state-storable (editionOf t) (N m) t (m .h);
+    clock = clock-storable (editionOf t) (N m) t;
     bounds = λ _. loaded-rows m p t state ok;
-    wind = loaded-wind m p t state ok;
   }
 
   -- where a load is accepted the run held is the one that it leaves, whichever slice it was lent
@@ -99,13 +95,13 @@ module _ (m : Mesh) (p : Parameters) where
   own-text : (r q : Run) (text : List ℕ) (into : Into) → Good r → length (lent q into) ≡ stateRuns * N m → saved m p r text .accepted ≡ true
       → loaded m p q (saved m p r text .text) into ≡ record { accepted = true; held = r }
   own-text r q text into g l e =
-      ap (replied q into) (saved-loaded m p (r .state) (r .clock) (g .state) (g .clock) (lent q into) l text (eqb-true _ _ e) (q .clock)) ∙ taken-up into
+      ap (replied q into) (saved-loaded m p (lent q into) l (r .state) (r .clock) (g .state) (g .clock) sp text (eqb-true _ _ e) (q .clock)) ∙ taken-up into
     where
       taken-up : (b : Into) → replied q b (gives (r .state) (r .clock)) ≡ record { accepted = true; held = r }
       taken-up itself = refl
       taken-up (other slice) = refl
 
-  -- a slice that an accepted load was lent has 4N places
+  -- a slice that an accepted load was lent has 6N places
   lent-long : (q : Run) (t : List ℕ) (into : Into) → loaded m p q t into .accepted ≡ true → length (lent q into) ≡ stateRuns * N m
   lent-long q t into e = load-long m p t (lent q into) (load-took m p t (lent q into) (q .clock) e .0)
 
@@ -131,20 +127,20 @@ module _ (m : Mesh) (p : Parameters) where
 
 -- ---- the statements
 pub demand3-at-surge : Demand3AtSurge
-demand3-at-surge m p = demand3 (surge m p) (laws m p)
+demand3-at-surge m p sp = demand3 (surge m p) (laws m p sp)
 
 pub any-save-at-surge : AnySaveAtSurge
-any-save-at-surge m p = any-save-of-a-text (surge m p) (laws m p)
+any-save-at-surge m p sp = any-save-of-a-text (surge m p) (laws m p sp)
 
 pub opens-cold : OpensCold
 unfolding openOf
 opens-cold m p state e = rw e
 
 pub own-saves-load : OwnSavesLoad
-own-saves-load m p cs text now into e l = own-text m p (history (surge m p) cs .held) now text into (good m p cs) l e
+own-saves-load m p sp cs text now into e l = own-text m p sp (history (surge m p) cs .held) now text into (good m p sp cs) l e
 
 pub held-runs-save : HeldRunsSave
 unfolding openOf openAnswer
-held-runs-save m p state cs text e l =
-    let g = good m p cs in
-    eq-eqb _ _ (save-accepts m p _ _ text (g .bounds (opened-mesh _ m p (eqb-true _ _ e))) (g .wind) l)
+held-runs-save m p sp state cs text e l =
+    let g = good m p sp cs in
+    eq-eqb _ _ (save-accepts m p _ _ text (g .bounds (opened-mesh _ m p (eqb-true _ _ e))) l)

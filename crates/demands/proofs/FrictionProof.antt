@@ -2,7 +2,7 @@
 use Prim.Native.Nat.{ℕ, _<_}
 use mathlib.Core.Path.{_≡_, refl, sym, ap, _∙_}
 use mathlib.Core.Bool.{Bool, true, false}
-use mathlib.Core.List.{[], _∷_}
+use mathlib.Core.List.{List, [], _∷_}
 use borrow.Author.Tests.{eqb-true, eqb-false}
 use lib.Dec.{T, eqb}
 use lib.Ieee.{Float, le, round}
@@ -10,10 +10,9 @@ use lib.Ieee.Scale.{finite}
 use Rattle.rows.specs.declared.Answer.{Answer}
 use Rattle.rows.specs.Scan.{_then_}
 use Rattle.rows.specs.Numbers.{within, decimal}
-use Rattle.rows.proofs.ScanLaws.{then-stop, then-first, scan-same}
+use Rattle.rows.proofs.ScanLaws.{then-stop, scan-same}
 use Rattle.lists.proofs.RunLaws.{run-same}
 use Rattle.quantities.specs.declared.Parameters.{Parameters}
-use Rattle.quantities.specs.declared.Forcing.{Forcing}
 use Rattle.quantities.specs.declared.Push.{Push}
 use Rattle.quantities.specs.declared.Flow.{Flow}
 use Rattle.quantities.specs.Operations.{_⊕_, _⊖_, _⊗_, _⊘_}
@@ -23,8 +22,10 @@ use Rattle.velocity.specs.Velocity.{H, H′, r, m as its-m, flow, flowBy, ofKin
 use Rattle.outcomes.specs.Outcomes.{flowRow}
 use Rattle.mesh.specs.Lent.{Mesh, N}
 use Rattle.nodes.proofs.PartLaws.{mesh-parts, dt-in}
-use Rattle.bounds.proofs.StateLaws.{AcceptedRun, accepted-run}
-use Rattle.passes.specs.Equations.{Given, kindOf, node, rise, pushAt, flowAt, nextBy, nextState}
+use Rattle.bounds.specs.Forcing.{row1Forcing}
+use Rattle.bounds.proofs.StateLaws.{AcceptedRun}
+use Rattle.bounds.proofs.ForcingLaws.{accepted-forced}
+use Rattle.passes.specs.Equations.{Given, kindOf, node, newWind, rise, pushAt, flowAt, nextBy, nextState}
 use Rattle.passes.specs.Row13.{riseRows, flowRowsBy, row13By, row13}
 use Rattle.passes.specs.Settle.{Rooms, row1Rooms}
 use Rattle.surge.specs.Lent.{Run, run, advanced}
@@ -47,15 +48,15 @@ unfolding decimal round
 dt-finite dt = within-finite (decimal 125 1000) dt (decimal 60 1) tt tt
 
 -- ---- of a step
-module _ (m : Mesh) (p : Parameters) (s : Run) (f : Forcing) (rooms : Rooms) (k : IsZero (p .k)) where
+module _ (m : Mesh) (p : Parameters) (s : Run) (f : List Float) (rooms : Rooms) (k : IsZero (p .k)) where
   abbrev g : Given
   g = givenOf m p s f
 
   -- where U' and V' are looked at
   module _ (first : stepRows m p s f rooms .number ≡ 0) (rises : riseRows g .number ≡ 0) where
-    ran : AcceptedRun (row1Rooms rooms (N m)) m p (s .state)
+    ran : AcceptedRun (row1Rooms rooms (N m) then row1Forcing m f) m p (s .state)
     unfolding stepRows
-    ran = accepted-run _ _ _ _ (then-first _ _ first)
+    ran = accepted-forced _ _ _ _ _ _ first .run
 
     same-flow : (i : ℕ) → i < N m → earlierFlow g i ≡ flowAt g i
     unfolding flowAt flowOf flow
@@ -70,8 +71,10 @@ module _ (m : Mesh) (p : Parameters) (s : Run) (f : Forcing) (rooms : Rooms) (k 
         let z : ℕ → Float = λ i. node g i .z in
         let us : (ℕ → Flow) → ℕ → Float = λ flows i. flows i .u in
         let vs : (ℕ → Flow) → ℕ → Float = λ flows i. flows i .v in
-        run-same (N m) (z ∷ rise g ∷ z ∷ vs (earlierFlow g) ∷ []) 2 (us (earlierFlow g)) (us (flowAt g)) (λ i l. ap (λ (v : Flow). v .u) (same-flow i l))
-        ∙ run-same (N m) (z ∷ rise g ∷ us (flowAt g) ∷ z ∷ []) 3 (vs (earlierFlow g)) (vs (flowAt g)) (λ i l. ap (λ (v : Flow). v .v) (same-flow i l))
+        let x : ℕ → Float = λ i. newWind g i .x in
+        let y : ℕ → Float = λ i. newWind g i .y in
+        run-same (N m) (z ∷ rise g ∷ z ∷ vs (earlierFlow g) ∷ x ∷ y ∷ []) 2 (us (earlierFlow g)) (us (flowAt g)) (λ i l. ap (λ (v : Flow). v .u) (same-flow i l))
+        ∙ run-same (N m) (z ∷ rise g ∷ us (flowAt g) ∷ z ∷ x ∷ y ∷ []) 3 (vs (earlierFlow g)) (vs (flowAt g)) (λ i l. ap (λ (v : Flow). v .v) (same-flow i l))
 
     same-row : row13By g (earlierFlow g) ≡ row13 g
     unfolding row13
@@ -86,7 +89,7 @@ module _ (m : Mesh) (p : Parameters) (s : Run) (f : Forcing) (rooms : Rooms) (k 
       go true e true q =
           let first = eqb-true _ _ e in
           let rises = eqb-true _ _ q in
-          sym (λ i. stepsTo m p s f rooms (run (same-next first rises i) (advanced (s .clock) f)) (stepRows m p s f rooms) (same-row first rises i))
+          sym (λ i. stepsTo m p s f rooms (run (same-next first rises i) (advanced (s .clock))) (stepRows m p s f rooms) (same-row first rises i))
       go true e false q =
           let stops = eqb-false _ _ q in
           rw (e, then-stop (riseRows g) (flowRowsBy g (flowAt g)) stops, then-stop (riseRows g) (flowRowsBy g (earlierFlow g)) stops, q) refl

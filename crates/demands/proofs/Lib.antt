@@ -4,4 +4,5 @@ pub mod FrictionProof
 pub mod AdvectionProof
 pub mod RoundTripProof
 pub mod SpellingsProof
+pub mod EditionsProof
 pub mod Demand3Proof

@@ -7,13 +7,12 @@ use borrow.Fn.Kinds.{PK, RK, Out, Dens, resT, endedOf}
 use denote.Triple.Clauses.{Lasts, atExit}
 use lib.Ieee.{Float}
 use Rattle.quantities.specs.declared.Parameters.{Parameters}
-use Rattle.quantities.specs.declared.Forcing.{Forcing}
 use Rattle.surge.specs.declared.Clock.{Clock}
 use Rattle.mesh.specs.Lent.{Mesh, mesh}
 use Rattle.surge.specs.Lent.{Run, run, After, after}
 use Rattle.surge.specs.Step.{StepOut, stepOut}
 use Rattle.passes.specs.Settle.{Rooms, lentRooms}
-use Rattle.forcings.specs.declared.Taken.{Taken}
+use Rattle.forcings.specs.Forcings.{Taken, taken}
 use Rattle.saves.specs.Save.{SaveOut, saveOut}
 use Rattle.capi.specs.Numbers as C
 use Rattle.surge.proofs.open.Kinds as open-kinds
@@ -54,13 +53,13 @@ Opening Says =
     (λ κs (state, (x, (y, (tri, (h, (kind, (p, _))))))) reply left.
     Says (mesh (x .now) (y .now) (tri .now) (h .now) (kind .now)) p (state .now) (after reply (left .0)))
 
--- step(next, work, sums, state, x, y, tri, h, kind, p, clock, f): of the mesh, the parameters, the run, the forcing, the rooms as they were lent, and
+-- step(next, work, sums, state, f, x, y, tri, h, kind, p, clock): of the mesh, the parameters, the run, the forcing, the rooms as they were lent, and
 -- what is left
-abbrev pub Stepping : (Mesh → Parameters → Run → Forcing → Rooms → StepOut → Type 0) → Type 0
+abbrev pub Stepping : (Mesh → Parameters → Run → List Float → Rooms → StepOut → Type 0) → Type 0
 Stepping Says =
     Keeps step-kinds.ps step-kinds.r step-reads.Post
-    (λ κs (next, (work, (sums, (state, (x, (y, (tri, (h, (kind, (p, (clock, (f, _)))))))))))) reply left.
-    Says (mesh (x .now) (y .now) (tri .now) (h .now) (kind .now)) p (run (state .now) clock) f (lentRooms (next .now) (work .now) (sums .now))
+    (λ κs (next, (work, (sums, (state, (f, (x, (y, (tri, (h, (kind, (p, (clock, _)))))))))))) reply left.
+    Says (mesh (x .now) (y .now) (tri .now) (h .now) (kind .now)) p (run (state .now) clock) (f .now) (lentRooms (next .now) (work .now) (sums .now))
     (stepOut reply (left .0) (left .1 .0) (left .1 .1 .0)))
 
 -- save(text, state, x, y, tri, h, kind, p, clock): of the mesh, the parameters, the state, the clock, the text room as it was lent, and what is left
@@ -77,53 +76,53 @@ Loading Says =
     (λ κs (state, (text, (x, (y, (tri, (h, (kind, (p, (clock, _))))))))) reply left.
     Says (mesh (x .now) (y .now) (tri .now) (h .now) (kind .now)) p (text .now) (state .now) clock (after reply (left .0)))
 
--- read_forcing(line, expected): of the line, the sequence number that is due, and what comes back
-abbrev pub Reading : (List ℕ → ℕ → Taken → Type 0) → Type 0
-Reading Says = Keeps read-forcing-kinds.ps read-forcing-kinds.r read-forcing-reads.Post (λ κs (line, (expected, _)) taken left. Says (line .now) expected taken)
+-- read_forcing(room, text, expected): of the room as it was lent, the text, the sequence number that is due, and what is left
+abbrev pub Reading : (List Float → List ℕ → ℕ → Taken → Type 0) → Type 0
+Reading Says =
+    Keeps read-forcing-kinds.ps read-forcing-kinds.r read-forcing-reads.Post
+    (λ κs (room, (text, (expected, _))) answer left. Says (room .now) (text .now) expected (taken answer (left .0)))
 
 -- ---- the calls for C: the number is the result, and all else that comes back goes through pointers
 
--- surge_open(state, place, value, step, wx, wy, x, y, tri, h, kind, dt, tau, k, f, advection)
+-- surge_open(state, place, value, step, x, y, tri, h, kind, dt, tau, k, f, advection)
 abbrev pub OpeningC : (Mesh → Parameters → List Float → After → Type 0) → Type 0
 OpeningC Says =
     Keeps surge-open-kinds.ps surge-open-kinds.r surge-open-reads.Post
-    (λ κs (state, (_, (_, (_, (_, (_, (x, (y, (tri, (h, (kind, (dt, (tau, (k, (f, (on, _)))))))))))))))) number (state′, (place, (value, (step, (wx, (wy, _)))))).
+    (λ κs (state, (_, (_, (_, (x, (y, (tri, (h, (kind, (dt, (tau, (k, (f, (on, _)))))))))))))) number (state′, (place, (value, (step, _)))).
     Says (mesh (x .now) (y .now) (tri .now) (h .now) (kind .now)) (C.parameters dt tau k f on) (state .now)
-    (after (C.reply (C.answer number place value) (C.clock step wx wy)) state′))
+    (after (C.reply (C.answer number place value) (C.clock step)) state′))
 
--- surge_step(next, work, sums, place, value, step, wx, wy, state, x, y, tri, h, kind, dt, tau, k, f, advection, elevation, wx_new, wy_new)
-abbrev pub SteppingC : (Mesh → Parameters → Run → Forcing → Rooms → StepOut → Type 0) → Type 0
+-- surge_step(next, work, sums, place, value, step, state, forcing, x, y, tri, h, kind, dt, tau, k, f, advection)
+abbrev pub SteppingC : (Mesh → Parameters → Run → List Float → Rooms → StepOut → Type 0) → Type 0
 SteppingC Says =
     Keeps surge-step-kinds.ps surge-step-kinds.r surge-step-reads.Post
     (λ κs
-    (next, (work, (sums, (_, (_, (step, (wx, (wy, (state, (x, (y, (tri, (h, (kind, (dt, (tau, (k, (f, (on, (elevation, (east, (north, _))))))))))))))))))))))
-    number (next′, (work′, (sums′, (place, (value, (step′, (wx′, (wy′, _)))))))).
-    Says (mesh (x .now) (y .now) (tri .now) (h .now) (kind .now)) (C.parameters dt tau k f on) (run (state .now) (C.clock (step .now) (wx .now) (wy .now)))
-    (C.forcing elevation east north) (lentRooms (next .now) (work .now) (sums .now))
-    (stepOut (C.reply (C.answer number place value) (C.clock step′ wx′ wy′)) next′ work′ sums′))
+    (next, (work, (sums, (_, (_, (step, (state, (forcing, (x, (y, (tri, (h, (kind, (dt, (tau, (k, (f, (on, _))))))))))))))))))
+    number (next′, (work′, (sums′, (place, (value, (step′, _)))))).
+    Says (mesh (x .now) (y .now) (tri .now) (h .now) (kind .now)) (C.parameters dt tau k f on) (run (state .now) (C.clock (step .now))) (forcing .now)
+    (lentRooms (next .now) (work .now) (sums .now)) (stepOut (C.reply (C.answer number place value) (C.clock step′)) next′ work′ sums′))
 
--- surge_save(text, place, value, state, x, y, tri, h, kind, dt, tau, k, f, advection, step, wx, wy)
+-- surge_save(text, place, value, state, x, y, tri, h, kind, dt, tau, k, f, advection, step)
 abbrev pub SavingC : (Mesh → Parameters → List Float → Clock → List ℕ → SaveOut → Type 0) → Type 0
 SavingC Says =
     Keeps surge-save-kinds.ps surge-save-kinds.r surge-save-reads.Post
-    (λ κs (text, (_, (_, (state, (x, (y, (tri, (h, (kind, (dt, (tau, (k, (f, (on, (step, (wx, (wy, _))))))))))))))))) number (text′, (place, (value, _))).
-    Says (mesh (x .now) (y .now) (tri .now) (h .now) (kind .now)) (C.parameters dt tau k f on) (state .now) (C.clock step wx wy) (text .now)
+    (λ κs (text, (_, (_, (state, (x, (y, (tri, (h, (kind, (dt, (tau, (k, (f, (on, (step, _))))))))))))))) number (text′, (place, (value, _))).
+    Says (mesh (x .now) (y .now) (tri .now) (h .now) (kind .now)) (C.parameters dt tau k f on) (state .now) (C.clock step) (text .now)
     (saveOut (C.answer number place value) text′))
 
--- surge_load(state, place, value, step, wx, wy, text, x, y, tri, h, kind, dt, tau, k, f, advection)
+-- surge_load(state, place, value, step, text, x, y, tri, h, kind, dt, tau, k, f, advection)
 abbrev pub LoadingC : (Mesh → Parameters → List ℕ → List Float → Clock → After → Type 0) → Type 0
 LoadingC Says =
     Keeps surge-load-kinds.ps surge-load-kinds.r surge-load-reads.Post
     (λ κs
-    (state, (_, (_, (step, (wx, (wy, (text, (x, (y, (tri, (h, (kind, (dt, (tau, (k, (f, (on, _)))))))))))))))))
-    number (state′, (place, (value, (step′, (wx′, (wy′, _)))))).
+    (state, (_, (_, (step, (text, (x, (y, (tri, (h, (kind, (dt, (tau, (k, (f, (on, _)))))))))))))))
+    number (state′, (place, (value, (step′, _)))).
     Says (mesh (x .now) (y .now) (tri .now) (h .now) (kind .now)) (C.parameters dt tau k f on) (text .now) (state .now)
-    (C.clock (step .now) (wx .now) (wy .now))
-    (after (C.reply (C.answer number place value) (C.clock step′ wx′ wy′)) state′))
+    (C.clock (step .now)) (after (C.reply (C.answer number place value) (C.clock step′)) state′))
 
--- surge_read_forcing(place, value, elevation, wx, wy, line, expected)
-abbrev pub ReadingC : (List ℕ → ℕ → Taken → Type 0) → Type 0
+-- surge_read_forcing(forcing, place, value, text, expected)
+abbrev pub ReadingC : (List Float → List ℕ → ℕ → Taken → Type 0) → Type 0
 ReadingC Says =
     Keeps surge-read-forcing-kinds.ps surge-read-forcing-kinds.r surge-read-forcing-reads.Post
-    (λ κs (_, (_, (_, (_, (_, (line, (expected, _))))))) number (place, (value, (elevation, (wx, (wy, _))))).
-    Says (line .now) expected (C.taken (C.answer number place value) (C.forcing elevation wx wy)))
+    (λ κs (room, (_, (_, (text, (expected, _))))) number (room′, (place, (value, _))).
+    Says (room .now) (text .now) expected (taken (C.answer number place value) room′))

@@ -12,20 +12,18 @@ use Rattle.lists.specs.Table.{table, zeros}
 use Rattle.lists.specs.Runs.{runsOf}
 use Rattle.rows.specs.Scan.{_then_}
 use Rattle.quantities.specs.declared.Parameters.{Parameters}
-use Rattle.quantities.specs.declared.Forcing.{Forcing}
 use Rattle.surge.specs.declared.Clock.{Clock}
-use Rattle.mesh.specs.Lent.{Mesh, N, E}
+use Rattle.mesh.specs.Lent.{Mesh, N}
 use Rattle.surge.specs.Lent.{Run, coldState, coldClock, advanced, After}
 use Rattle.surge.specs.Open.{openAnswer}
 use Rattle.surge.specs.Step.{StepOut, givenOf, stepRows}
-use Rattle.passes.specs.Equations.{node, rise, U′, V′}
+use Rattle.passes.specs.Equations.{node, newWind, rise, U′, V′}
 use Rattle.passes.specs.Row13.{row13}
 use Rattle.passes.specs.Settle.{Rooms, workRuns}
-use Rattle.forcings.specs.declared.Taken.{Taken}
 use Rattle.saves.specs.Lines.{saveLength}
-use Rattle.saves.specs.Save.{saveText, saveAnswer, SaveOut, wrote}
-use Rattle.loads.specs.Load.{clockOf, loadAnswer, loadedState}
-use Rattle.forcings.specs.Forcings.{still, forcingOf, forcingAnswer}
+use Rattle.saves.specs.Save.{savedOf, saveText, saveAnswer, SaveOut, wrote}
+use Rattle.loads.specs.Load.{editionOf, clockIn, loadAnswer, stateIn}
+use Rattle.forcings.specs.Forcings.{nodesOf, forcingOf, forcingAnswer, Taken}
 use Rattle.demands.specs.Contracts.{Opening, Stepping, Saving, Loading, Reading, OpeningC, SteppingC, SavingC, LoadingC, ReadingC}
 
 abbrev pub Accepts : Answer → Type 0
@@ -44,7 +42,7 @@ pub record OpenSays (m : Mesh) (p : Parameters) (state : List Float) (o : After)
   pub refused : Refuses (o .reply .answer) → o .state ≡ state
 
 -- step: what is asked before anything is worked out, then row 13
-abbrev pub stepAnswer : Mesh → Parameters → Run → Forcing → Rooms → Answer
+abbrev pub stepAnswer : Mesh → Parameters → Run → List Float → Rooms → Answer
 stepAnswer m p s f r = stepRows m p s f r then row13 (givenOf m p s f)
 
 -- the work room is as found; and it is zero
@@ -54,11 +52,12 @@ Untouched r o = (o .work ≡ r .work) × (o .sums ≡ r .sums)
 abbrev pub AllZero : ℕ → Rooms → Type 0
 AllZero n o = (o .work ≡ zeros (workRuns * n)) × (o .sums ≡ table n (λ _. 0))
 
-pub record StepSays (m : Mesh) (p : Parameters) (s : Run) (f : Forcing) (r : Rooms) (o : StepOut) : Type 0 where
+pub record StepSays (m : Mesh) (p : Parameters) (s : Run) (f : List Float) (r : Rooms) (o : StepOut) : Type 0 where
   pub answer : o .reply .answer ≡ stepAnswer m p s f r
-  -- "The next state is z, z', U', V'; the clock gains one step and holds Wx', Wy'."
-  pub next-state : Accepts (o .reply .answer) → let g = givenOf m p s f in o .rooms .next ≡ runsOf (N m) ((λ i. node g i .z) ∷ rise g ∷ U′ g ∷ V′ g ∷ [])
-  pub next-clock : Accepts (o .reply .answer) → o .reply .clock ≡ advanced (s .clock) f
+  -- "The next state is z, z', U', V'; the clock gains one step"; of #105 the state holds Wx', Wy'
+  pub next-state : Accepts (o .reply .answer) → let g = givenOf m p s f in
+      o .rooms .next ≡ runsOf (N m) ((λ i. node g i .z) ∷ rise g ∷ U′ g ∷ V′ g ∷ (λ i. newWind g i .x) ∷ (λ i. newWind g i .y) ∷ [])
+  pub next-clock : Accepts (o .reply .answer) → o .reply .clock ≡ advanced (s .clock)
   -- "A refusal leaves state, next state, text and clock as found."
   pub same-next : Refuses (o .reply .answer) → o .rooms .next ≡ r .next
   pub same-clock : Refuses (o .reply .answer) → o .reply .clock ≡ s .clock
@@ -67,23 +66,23 @@ pub record StepSays (m : Mesh) (p : Parameters) (s : Run) (f : Forcing) (r : Roo
   pub zero-after-13 : o .reply .answer .number ≡ 13 → AllZero (N m) (o .rooms)
   pub zero-accepted : Accepts (o .reply .answer) → AllZero (N m) (o .rooms)
 
--- save: the rows' answer with the text as found; or, where they accept, number 0 and place 70+73N, and "Text room past a save keeps its bytes"
+-- save: the rows' answer with the text as found; or, where they accept, number 0 and place 127+105N, and "Text room past a save keeps its bytes"
 pub record SaveSays (m : Mesh) (p : Parameters) (state : List Float) (k : Clock) (t : List ℕ) (o : SaveOut) : Type 0 where
-  pub refused : Refuses (saveAnswer m p state k t) → (o .answer ≡ saveAnswer m p state k t) × (o .text ≡ t)
-  pub accepted : Accepts (saveAnswer m p state k t)
-      → (o .answer ≡ wrote (saveLength (N m))) × (o .text ≡ saveText (N m) (E m) state k ++ drop (saveLength (N m)) t)
+  pub refused : Refuses (saveAnswer m p state t) → (o .answer ≡ saveAnswer m p state t) × (o .text ≡ t)
+  pub accepted : Accepts (saveAnswer m p state t)
+      → (o .answer ≡ wrote (saveLength (N m))) × (o .text ≡ saveText (savedOf m p state k) ++ drop (saveLength (N m)) t)
 
--- load: the state and the clock that the text's lines hold; a refusal leaves both as found
+-- load: the state and the clock that the text's lines hold, in its edition; a refusal leaves both as found
 pub record LoadSays (m : Mesh) (p : Parameters) (t : List ℕ) (state : List Float) (k : Clock) (o : After) : Type 0 where
   pub answer : o .reply .answer ≡ loadAnswer m p t state
-  pub accepted : Accepts (o .reply .answer) → (o .state ≡ loadedState (N m) (m .h) t) × (o .reply .clock ≡ clockOf (N m) t)
+  pub accepted : Accepts (o .reply .answer) → (o .state ≡ stateIn (editionOf t) (N m) t (m .h)) × (o .reply .clock ≡ clockIn (editionOf t) (N m) t)
   pub refused : Refuses (o .reply .answer) → (o .state ≡ state) × (o .reply .clock ≡ k)
 
--- read_forcing: "gives 20, 21, 22, at place 0, and a refused one hands back a forcing of three +0"
-pub record ForcingSays (line : List ℕ) (expected : ℕ) (o : Taken) : Type 0 where
-  pub answer : o .answer ≡ forcingAnswer line expected
-  pub accepted : Accepts (o .answer) → o .forcing ≡ forcingOf line
-  pub refused : Refuses (o .answer) → o .forcing ≡ still
+-- read_forcing: "A refused forcing reading … leaves the forcing room as found"
+pub record ForcingSays (room : List Float) (t : List ℕ) (expected : ℕ) (o : Taken) : Type 0 where
+  pub answer : o .answer ≡ forcingAnswer room t expected
+  pub accepted : Accepts (o .answer) → o .room ≡ forcingOf (nodesOf room) t
+  pub refused : Refuses (o .answer) → o .room ≡ room
 
 -- ---- and said of every outcome
 pub record Demand1 : Type 0 where

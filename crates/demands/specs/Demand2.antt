@@ -26,12 +26,12 @@ pub record Demand2 : Type 0 where
   pub surge·step : Stepping (λ m p s f r o. o ≡ stepOf m p s f r)
   pub saves·save : Saving (λ m p state k t o. o ≡ saveOf m p state k t)
   pub loads·load : Loading (λ m p t state k o. o ≡ loadOf m p t state k)
-  pub forcings·read-forcing : Reading (λ line expected o. o ≡ takenOf line expected)
+  pub forcings·read-forcing : Reading (λ room t expected o. o ≡ takenOf room t expected)
   pub capi·surge-open : OpeningC (λ m p state o. o ≡ openOf m p state)
   pub capi·surge-step : SteppingC (λ m p s f r o. o ≡ stepOf m p s f r)
   pub capi·surge-save : SavingC (λ m p state k t o. o ≡ saveOf m p state k t)
   pub capi·surge-load : LoadingC (λ m p t state k o. o ≡ loadOf m p t state k)
-  pub capi·surge-read-forcing : ReadingC (λ line expected o. o ≡ takenOf line expected)
+  pub capi·surge-read-forcing : ReadingC (λ room t expected o. o ≡ takenOf room t expected)
 
 -- ---- "Each |a|, |b| is at most 100,000, so D is at most 2·10^10, a node's sum S of D over its triangles fits 53 bits, and all become floats without loss."
 

@@ -4,16 +4,15 @@
 -- the path. A load puts the path back to what it was at the latest save of that text. Saves and refused calls change nothing in it."
 -- Here are the product's calls as a program makes them, and what it holds after each; the sequence, its path and the premise on a text that is loaded are
 -- history/specs/History. It is proved of every mesh and of rooms of any sizes: where one is not as the demand asks, the calls are refused.
-use Prim.Native.Nat.{ℕ, _*_, _≤_}
+use Prim.Native.Nat.{ℕ, _*_, _<_, _≤_}
 use mathlib.Core.Path.{_≡_}
 use mathlib.Core.Bool.{Bool, true, cond}
 use mathlib.Core.List.{List}
 use lib.Dec.{T, eqb}
-use lib.ListN.{length, take}
-use lib.Ieee.{Float, binary64, fits}
+use lib.ListN.{length, getD, take}
+use lib.Ieee.{Float, nan, binary64, fits}
 use Rattle.rows.specs.declared.Answer.{Answer}
 use Rattle.quantities.specs.declared.Parameters.{Parameters}
-use Rattle.quantities.specs.declared.Forcing.{Forcing}
 use Rattle.mesh.specs.Lent.{Mesh, N}
 use Rattle.bounds.specs.State.{stateRuns}
 use Rattle.surge.specs.Lent.{Run, run, coldState, coldClock}
@@ -23,14 +22,13 @@ use Rattle.passes.specs.Settle.{Rooms}
 use Rattle.saves.specs.Lines.{saveLength}
 use Rattle.saves.specs.Save.{saveOf}
 use Rattle.loads.specs.Load.{loadOf}
+use Rattle.loads.specs.Storable.{StorableParameters}
 use Rattle.history.specs.History.{Reply, Written, Calls, Call, history, Demand3, AnySaveOfAText}
 
--- a forcing as a program has it: each of its three numbers is a binary64
+-- a forcing as a program has it: each of its numbers is a binary64
 pub record Weather : Type 0 where
-  pub forcing : Forcing
-  pub elevation : T (fits binary64 (forcing .elevation))
-  pub wx : T (fits binary64 (forcing .wx))
-  pub wy : T (fits binary64 (forcing .wy))
+  pub forcing : List Float
+  pub values : (j : ℕ) → j < length forcing → T (fits binary64 (getD forcing j nan))
 
 -- "An accepted call has number 0"
 abbrev pub accepts : Answer → Bool
@@ -58,7 +56,7 @@ stateAfter (other slice) ok left state = cond ok left state
 module _ (m : Mesh) (p : Parameters) where
   -- A step is lent rooms of any lengths, with anything in them. Where it accepts, the state held is what it wrote to the room for the next state; where it
   -- refuses, the state stays. The clock held is the one that it hands back.
-  abbrev pub stepped : Run → Forcing → Rooms → Reply Run
+  abbrev pub stepped : Run → List Float → Rooms → Reply Run
   stepped r f rooms =
       let o = stepOf m p r f rooms in
       let ok = accepts (o .reply .answer) in
@@ -92,13 +90,13 @@ module _ (m : Mesh) (p : Parameters) where
     load = loaded;
   }
 
--- Demand 3, on every mesh and with all parameters.
+-- Demand 3, on every mesh and with all parameters that a program can have: four binary64 values.
 abbrev pub Demand3AtSurge : Type 0
-Demand3AtSurge = (m : Mesh) (p : Parameters) → Demand3 (surge m p)
+Demand3AtSurge = (m : Mesh) (p : Parameters) → StorableParameters p → Demand3 (surge m p)
 
 -- "the latest save of that text": of two saves of one text, the equations give the same run along the path of either.
 abbrev pub AnySaveAtSurge : Type 0
-AnySaveAtSurge = (m : Mesh) (p : Parameters) → AnySaveOfAText (surge m p)
+AnySaveAtSurge = (m : Mesh) (p : Parameters) → StorableParameters p → AnySaveOfAText (surge m p)
 
 -- That cold start is the run that opening hands back, wherever it accepts.
 abbrev pub OpensCold : Type 0
@@ -107,18 +105,18 @@ OpensCold =
     run (openOf m p state .state) (openOf m p state .reply .clock) ≡ coldRun m
 
 -- Own saves are accepted back. Whatever run is held after any sequence of calls (loads of any texts among them): where a save of it is accepted, its text,
--- loaded into any slice of 4N, whatever run is held then, is accepted and gives back that run.
+-- loaded into any slice of 6N, whatever run is held then, is accepted and gives back that run.
 abbrev pub OwnSavesLoad : Type 0
 OwnSavesLoad =
-    (m : Mesh) (p : Parameters) (cs : List (Call (surge m p))) (text : List ℕ) (now : Run) (into : Into) →
+    (m : Mesh) (p : Parameters) → StorableParameters p → (cs : List (Call (surge m p))) (text : List ℕ) (now : Run) (into : Into) →
     let r = history (surge m p) cs .held in
     saved m p r text .accepted ≡ true → length (lent now into) ≡ stateRuns * N m →
     loaded m p now (saved m p r text .text) into ≡ record { accepted = true; held = r }
 
 -- Every run held can be saved. On a mesh and with parameters that opening accepts, after any sequence of calls (loads of any texts among them), a save that
--- is lent a text room of 70+73N bytes or more is accepted.
+-- is lent a text room of 127+105N bytes or more is accepted.
 abbrev pub HeldRunsSave : Type 0
 HeldRunsSave =
-    (m : Mesh) (p : Parameters) (state : List Float) (cs : List (Call (surge m p))) (text : List ℕ) →
+    (m : Mesh) (p : Parameters) → StorableParameters p → (state : List Float) (cs : List (Call (surge m p))) (text : List ℕ) →
     accepts (openOf m p state .reply .answer) ≡ true → saveLength (N m) ≤ length text →
     saved m p (history (surge m p) cs .held) text .accepted ≡ true

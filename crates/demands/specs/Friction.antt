@@ -2,9 +2,9 @@
 -- A step with the m that document 01 had, which is kept for this statement alone; all else of it is the step's own definitions.
 use Prim.Native.Nat.{ℕ}
 use mathlib.Core.Path.{_≡_}
+use mathlib.Core.List.{List}
 use lib.Ieee.{Float}
 use Rattle.quantities.specs.declared.Parameters.{Parameters}
-use Rattle.quantities.specs.declared.Forcing.{Forcing}
 use Rattle.quantities.specs.declared.Push.{Push}
 use Rattle.quantities.specs.declared.Flow.{Flow}
 use Rattle.quantities.specs.Operations.{_⊖_}
@@ -27,10 +27,10 @@ abbrev pub earlierFlow : Given → ℕ → Flow
 earlierFlow g i = ofKind (kindOf g i) (flowBy (g .p) (pushAt g i) (g .less) (earlierM (g .p) (pushAt g i)))
 
 -- the whole outcome of a step with these
-unfoldable pub earlierStep : Mesh → Parameters → Run → Forcing → Rooms → StepOut
+unfoldable pub earlierStep : Mesh → Parameters → Run → List Float → Rooms → StepOut
 earlierStep m p s f rooms =
     let g = givenOf m p s f in
-    stepsTo m p s f rooms (run (nextBy g (earlierFlow g)) (advanced (s .clock) f)) (stepRows m p s f rooms) (row13By g (earlierFlow g))
+    stepsTo m p s f rooms (run (nextBy g (earlierFlow g)) (advanced (s .clock))) (stepRows m p s f rooms) (row13By g (earlierFlow g))
 
 -- with K = +0 or -0 every outcome that meets the contract of a step, or of a step for C, is the earlier one: answer, value, clock, next state and work room
 pub record SameAtZeroFriction : Type 0 where

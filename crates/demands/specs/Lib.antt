@@ -5,4 +5,5 @@ pub mod Friction
 pub mod Advection
 pub mod RoundTrip
 pub mod Spellings
+pub mod Editions
 pub mod Demand3

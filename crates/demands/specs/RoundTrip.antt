@@ -1,5 +1,6 @@
 -- The round trip: a save and a load give back the run, bit by bit. Two floats are the same here where they have the same pattern (+0 is not -0, and all
--- NaN are one); StorableState and StorableClock say of a run that its numbers are binary64 and its step number a u32, as every f64 and u32 of a program is.
+-- NaN are one); StorableState, StorableClock and StorableParameters say of a run that its numbers are binary64 and its step number a u32, as every f64 and u32 of a
+-- program is.
 use Prim.Native.Nat.{ℕ, _*_, _≤_}
 use mathlib.Core.Path.{_≡_}
 use mathlib.Core.List.{List}
@@ -12,9 +13,9 @@ use Rattle.mesh.specs.Lent.{Mesh, N}
 use Rattle.bounds.specs.State.{stateRuns}
 use Rattle.surge.specs.Lent.{After, after}
 use Rattle.saves.specs.Lines.{saveLength}
-use Rattle.saves.specs.Save.{SaveOut, saveText, saveOf, wrote}
+use Rattle.saves.specs.Save.{Saved, SaveOut, saveText, saveOf, wrote}
 use Rattle.loads.specs.Load.{loadOf}
-use Rattle.loads.specs.Storable.{StorableState, StorableClock}
+use Rattle.loads.specs.Storable.{StorableState, StorableClock, StorableParameters}
 use Rattle.demands.specs.Demand1.{Accepts}
 
 -- the text that a save wrote: as many bytes as its place says
@@ -25,25 +26,25 @@ written o = take (o .answer .place) (o .text)
 abbrev pub gives : List Float → Clock → After
 gives state k = after (record { answer = accepted; clock = k }) state
 
--- The text of an accepted save, loaded over any state of 4N and any clock, is accepted, and gives the state and the clock that were saved.
+-- The text of an accepted save, loaded over any state of 6N and any clock, is accepted, and gives the state and the clock that were saved.
 abbrev pub SavedIsLoaded : Type 0
 SavedIsLoaded =
     (m : Mesh) (p : Parameters) (state : List Float) (k : Clock) (room : List ℕ) (old : List Float) (other : Clock) →
-    StorableState (N m) state → StorableClock k → length old ≡ stateRuns * N m → Accepts (saveOf m p state k room .answer) →
+    StorableState (N m) state → StorableClock k → StorableParameters p → length old ≡ stateRuns * N m → Accepts (saveOf m p state k room .answer) →
     loadOf m p (written (saveOf m p state k room)) old other ≡ gives state k
 
--- Two runs on meshes of N nodes and E triangles that have the same text are the same run: a save leaves nothing out.
+-- Two runs on meshes of N nodes that have the same text are the same run: a save leaves nothing out.
 abbrev pub SameTextSameRun : Type 0
 SameTextSameRun =
-    (n e : ℕ) (state₁ state₂ : List Float) (k₁ k₂ : Clock) →
-    StorableState n state₁ → StorableState n state₂ → StorableClock k₁ → StorableClock k₂ →
-    saveText n e state₁ k₁ ≡ saveText n e state₂ k₂ → (state₁ ≡ state₂) × (k₁ ≡ k₂)
+    (a b : Saved) → a .n ≡ b .n →
+    StorableState (a .n) (a .state) → StorableState (b .n) (b .state) → StorableClock (a .clock) → StorableClock (b .clock) →
+    saveText a ≡ saveText b → (a .state ≡ b .state) × (a .clock ≡ b .clock)
 
--- Whatever an accepted load gives, whoever wrote its text, is saved into any room of 70+73N or more, and loaded again.
+-- Whatever an accepted load gives, whoever wrote its text and in either edition, is saved into any room of 127+105N or more, and loaded again.
 abbrev pub LoadedIsSaved : Type 0
 LoadedIsSaved =
     (m : Mesh) (p : Parameters) (t : List ℕ) (state : List Float) (k : Clock) (room : List ℕ) (old : List Float) (other : Clock) →
-    Accepts (loadOf m p t state k .reply .answer) → saveLength (N m) ≤ length room → length old ≡ stateRuns * N m →
+    Accepts (loadOf m p t state k .reply .answer) → saveLength (N m) ≤ length room → length old ≡ stateRuns * N m → StorableParameters p →
     let run = loadOf m p t state k in
     let save = saveOf m p (run .state) (run .reply .clock) room in
     (save .answer ≡ wrote (saveLength (N m))) × (loadOf m p (written save) old other ≡ gives (run .state) (run .reply .clock))

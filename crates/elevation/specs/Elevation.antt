@@ -6,20 +6,18 @@ use lib.Ieee.{Float, neg}
 use Rattle.quantities.specs.Operations.{_⊕_, _⊖_, _⊗_, _⊘_, Taking}
 use Rattle.quantities.specs.Constants.{g, one, two, six}
 use Rattle.quantities.specs.declared.Parameters.{Parameters}
-use Rattle.quantities.specs.declared.Wind.{Wind}
 use Rattle.quantities.specs.declared.Node.{Node}
 use Rattle.quantities.specs.declared.Sides.{Sides}
 use Rattle.quantities.specs.declared.Shares.{Shares}
 use Rattle.triangle.specs.declared.Means.{Means}
 use Rattle.triangle.specs.Triangle.{z*}
 
-module _ (less : Taking) (run : Parameters) (w : Wind) (m : Means) (D : Float) where
+module _ (less : Taking) (run : Parameters) (m : Means) (D : Float) where
   open Parameters run using (dt, tau, k as K, f)
-  open Wind w using (x as Wx, y as Wy)
-  open Means m using (ub as Ub, vb as Vb, z as Z, qx as Qx, qy as Qy, sx as Sx, sy as Sy, xu as Xu, yu as Yu, xv as Xv, yv as Yv)
+  open Means m using (ub as Ub, vb as Vb, z as Z, qx as Qx, qy as Qy, sx as Sx, sy as Sy, xu as Xu, yu as Yu, xv as Xv, yv as Yv, wx as Wx, wy as Wy)
 
   -- "Jx = ((((f·Qy - (g·Sx)/(2·D)) + Wx) - K·Ub) + (Ub·Z)/dt) + tau·Qx". Document 02, #103: "In Jx, (Qx·Xu + Qy·Yu)/D is taken from f·Qy before the
-  -- squared-elevation term; Jy likewise with Xv, Yv."
+  -- squared-elevation term; Jy likewise with Xv, Yv." #105: Wx is "the mean of the three corner winds", of the triangle's record.
   unfoldable pub Jx : Float
   Jx = ((((less (f ⊗ Qy) ((Qx ⊗ Xu ⊕ Qy ⊗ Yu) ⊘ D) ⊖ (g ⊗ Sx) ⊘ (two ⊗ D)) ⊕ Wx) ⊖ K ⊗ Ub) ⊕ (Ub ⊗ Z) ⊘ dt) ⊕ tau ⊗ Qx
 
@@ -35,9 +33,9 @@ module _ (m : Means) (D : Float) where
   corner Jx Jy aj bj = (Jx ⊗ bj ⊕ Jy ⊗ aj) ⊘ two ⊖ ((g ⊗ hb) ⊗ (Gx ⊗ bj ⊕ Gy ⊗ aj)) ⊘ (two ⊗ D)
 
 -- the one record, "used for three corners"
-unfoldable pub shares : Taking → Parameters → Wind → Means → Sides → Shares
-shares less run w m s =
-    let at = corner m (s .d) (Jx less run w m (s .d)) (Jy less run w m (s .d)) in
+unfoldable pub shares : Taking → Parameters → Means → Sides → Shares
+shares less run m s =
+    let at = corner m (s .d) (Jx less run m (s .d)) (Jy less run m (s .d)) in
     record { r1 = at (s .a1) (s .b1); r2 = at (s .a2) (s .b2); r3 = at (s .a3) (s .b3) }
 
 -- "L = (S/6)/dt."

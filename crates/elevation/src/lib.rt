@@ -4,7 +4,6 @@ use quantities::Node;
 use quantities::Parameters;
 use quantities::Shares;
 use quantities::Sides;
-use quantities::Wind;
 use triangle::Means;
 ghost use mathlib.Core.Path.{_≡_};
 ghost use Rattle.quantities.specs.Operations.{_⊕_, _⊗_, _⊘_, lessIf};
@@ -21,19 +20,19 @@ fn carried(run: Parameters, m: Means, d: f64, from: f64, x: f64, y: f64) -> f64
     }
 }
 
-fn jx(run: Parameters, w: Wind, m: Means, d: f64) -> f64
-    ensures { λ r. ⌜ r ≡ Jx (lessIf (run .advection)) run w m d ⌝ }
+fn jx(run: Parameters, m: Means, d: f64) -> f64
+    ensures { λ r. ⌜ r ≡ Jx (lessIf (run .advection)) run m d ⌝ }
 {
     let carried = carried(run, m, d, run.f * m.qy, m.xu, m.yu);
-    ((((carried - (G * m.sx) / (2.0 * d)) + w.x) - run.k * m.ub) + (m.ub * m.z) / run.dt)
+    ((((carried - (G * m.sx) / (2.0 * d)) + m.wx) - run.k * m.ub) + (m.ub * m.z) / run.dt)
         + run.tau * m.qx
 }
 
-fn jy(run: Parameters, w: Wind, m: Means, d: f64) -> f64
-    ensures { λ r. ⌜ r ≡ Jy (lessIf (run .advection)) run w m d ⌝ }
+fn jy(run: Parameters, m: Means, d: f64) -> f64
+    ensures { λ r. ⌜ r ≡ Jy (lessIf (run .advection)) run m d ⌝ }
 {
     let carried = carried(run, m, d, (-run.f) * m.qx, m.xv, m.yv);
-    ((((carried - (G * m.sy) / (2.0 * d)) + w.y) - run.k * m.vb) + (m.vb * m.z) / run.dt)
+    ((((carried - (G * m.sy) / (2.0 * d)) + m.wy) - run.k * m.vb) + (m.vb * m.z) / run.dt)
         + run.tau * m.qy
 }
 
@@ -44,11 +43,11 @@ fn corner(m: Means, d: f64, jx: f64, jy: f64, a: f64, b: f64) -> f64
 }
 
 // The one record of the triangle serves its three corners.
-pub fn shares(run: Parameters, w: Wind, m: Means, s: Sides) -> Shares
-    ensures { λ r. ⌜ r ≡ shares (lessIf (run .advection)) run w m s ⌝ }
+pub fn shares(run: Parameters, m: Means, s: Sides) -> Shares
+    ensures { λ r. ⌜ r ≡ shares (lessIf (run .advection)) run m s ⌝ }
 {
-    let x = jx(run, w, m, s.d);
-    let y = jy(run, w, m, s.d);
+    let x = jx(run, m, s.d);
+    let y = jy(run, m, s.d);
     Shares {
         r1: corner(m, s.d, x, y, s.a1, s.b1),
         r2: corner(m, s.d, x, y, s.a2, s.b2),

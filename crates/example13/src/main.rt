@@ -1,8 +1,7 @@
-// Example 13 of document 01: two steps on mesh T from a cold start. Each number of the state after each step is written as its binary64
-// pattern, one a line, and last the clock's step number. The file `stdout` beside src/ holds what the independent second program gives. Standard
+// Example 13 of document 01, with its wind at every node: two steps on mesh T from a cold start. Each number of the state after each step is written as
+// its binary64 pattern, one a line, and last the clock's step number. The file `stdout` beside src/ holds what the independent second program gives. Standard
 // error says of a write that fails why it did.
 use libc::STDOUT_FILENO;
-use quantities::Forcing;
 use quantities::Parameters;
 
 // Each of these says whether all was written.
@@ -37,21 +36,18 @@ fn main() {
         f: 0.0,
         advection: false,
     };
-    let mut state = [0.0; 12];
-    let mut next = [0.0; 12];
+    let mut state = [0.0; 18];
+    let mut next = [0.0; 18];
     let mut work = [0.0; 15];
     let mut sums = [0u64; 3];
     let opened = surge::open(&mut state, &x, &y, &tri, &h, &kind, p);
-    let wind = Forcing {
-        elevation: 0.0,
-        wx: 0.015625,
-        wy: 0.0,
-    };
+    let wind = [0.0, 0.015625, 0.015625, 0.015625, 0.0, 0.0, 0.0];
     let one = surge::step(
         &mut next,
         &mut work,
         &mut sums,
         &state,
+        &wind,
         &x,
         &y,
         &tri,
@@ -59,18 +55,14 @@ fn main() {
         &kind,
         p,
         opened.clock,
-        wind,
     );
-    let calm = Forcing {
-        elevation: 0.0,
-        wx: 0.0,
-        wy: 0.0,
-    };
+    let calm = [0.0; 7];
     let two = surge::step(
         &mut state,
         &mut work,
         &mut sums,
         &next,
+        &calm,
         &x,
         &y,
         &tri,
@@ -78,7 +70,6 @@ fn main() {
         &kind,
         p,
         one.clock,
-        calm,
     );
     if !(print_state(&next) && print_state(&state) && print_step(two.clock.step)) {
         os::fail(b"example13: cannot write standard output");

@@ -8,18 +8,23 @@ use lib.Dec.{eqb}
 use lib.ListN.{length, length-map, getD}
 use Rattle.rows.proofs.ScanLaws.{row-passed, then-first, then-rest, both-left, both-right}
 use Rattle.frames.specs.Bytes.{allDigits}
-use Rattle.frames.specs.Frames.{Frame, text, digitsOf, lineFeed}
+use Rattle.frames.specs.Frames.{Frame, Layout, text, digitsOf, lineFeed}
 use Rattle.frames.specs.Private.{widthsOf}
 use Rattle.frames.specs.Reading.{value}
+use Rattle.frames.specs.Texts.{due, lineAt}
 use Rattle.frames.specs.Spelling.{upper, inUpper}
-use Rattle.frames.proofs.SpellingLaws.{bytes-upper, right-upper, feed-at-upper, value-upper}
+use Rattle.frames.proofs.SpellingLaws.{bytes-upper, right-upper, feed-at-upper, value-upper, line-at-upper}
 use Rattle.frames.proofs.WrittenLaws.{narrow, Reads, line-written}
-use Rattle.faults.specs.Faults.{isFramed, row20, row21, row22, fault}
+use Rattle.faults.specs.Faults.{isFramed, row20, row21, row22, fault, lineFault}
 
 pub fault-upper : (line : List ℕ) (due kind sequence place : ℕ) → fault (inUpper line) due kind sequence place ≡ fault line due kind sequence place
 unfolding fault row20 row21 row22 isFramed
 fault-upper line due kind sequence place =
     rw (length-map line upper, feed-at-upper line due, right-upper line, bytes-upper line, value-upper line 0 1, value-upper line 1 2)
+
+pub line-fault-upper : (layout : ℕ → Layout) (t : List ℕ) (j : ℕ) → lineFault layout (inUpper t) j ≡ lineFault layout t j
+unfolding lineFault
+line-fault-upper layout t j = rw (line-at-upper layout t j) (fault-upper (lineAt layout t j) (due layout j) (layout j .kind) j j)
 
 -- a line without fault by a frame's digits, kind and sequence, whose fields are read as the frame's
 pub fault-written : (f : Frame) (line : List ℕ) (place : ℕ) → fault line (digitsOf (widthsOf (f .fields))) (f .kind) (f .sequence) place .number ≡ 0

@@ -7,7 +7,8 @@ use lib.Dec.{eqb}
 use Rattle.rows.specs.declared.Answer.{Answer}
 use Rattle.rows.specs.Scan.{row, _then_}
 use Rattle.frames.specs.Bytes.{bytes, allDigits, sum}
-use Rattle.frames.specs.Frames.{lineFeed}
+use Rattle.frames.specs.Frames.{Layout, lineFeed}
+use Rattle.frames.specs.Texts.{due, lineAt}
 use Rattle.frames.specs.Reading.{value}
 
 -- the digits due, two for each byte, and then the line feed and nothing more
@@ -29,3 +30,7 @@ row22 line kind sequence place = row (eqb (value line 0 1) kind && eqb (value li
 -- "in each 20, 21, 22"
 unfoldable pub fault : List ℕ → ℕ → ℕ → ℕ → ℕ → Answer
 fault line due kind sequence place = row20 line due place then row21 line place then row22 line kind sequence place
+
+-- of line j of a text of lines, whose sequence is its number
+unfoldable pub lineFault : (ℕ → Layout) → List ℕ → ℕ → Answer
+lineFault layout t j = fault (lineAt layout t j) (due layout j) (layout j .kind) j j

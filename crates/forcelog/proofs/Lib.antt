@@ -1,6 +1,8 @@
 pub mod LogLaws
 pub mod MeshLaws
-pub mod PieceLaws
+mod LineLaws
+pub mod GroupLaws
+pub mod WholeLaws
 pub mod SpellingLaws
 pub mod EmptyLaws
 pub mod SavableLaws

@@ -14,6 +14,6 @@ use Rattle.nodes.specs.Rows.{isNamed, row7, row8, nodeRows, openRows}
 use Rattle.surge.specs.Open.{openAnswer, openOf}
 use Rattle.forcelog.specs.MeshT.{T, T-parameters}
 
-pub T-opens : openOf T T-parameters (zeros 12) ≡ after (record { answer = accepted; clock = coldClock }) (coldState 3)
+pub T-opens : openOf T T-parameters (zeros 18) ≡ after (record { answer = accepted; clock = coldClock }) (coldState 3)
 unfolding openOf openAnswer T T-parameters table row _then_ scan some within decimal minus round le lt eq sides allNear row1 row2 allBelow row3 row4 row5 triangleRows isLeg row6 isNamed row7 isNode row8 row9 shapeRows nodeRows openRows
 T-opens = refl

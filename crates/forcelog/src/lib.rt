@@ -1,12 +1,11 @@
-// A log of forcing lines, taken one by one on mesh T: what the printing program does, but for its reading and writing.
-use quantities::Forcing;
+// A log of forcings, taken one by one on mesh T: what the printing program does, but for its reading and writing.
+use frames::reading;
 use quantities::Parameters;
 use rows::Answer;
 use surge::Clock;
 ghost use mathlib.Core.Path.{_≡_};
 ghost use Rattle.saves.specs.Save.{saveOut};
-ghost use Rattle.forcelog.specs.Log.{coldLog, stepped, refusedAt, afterStep, takeOf, endOf};
-ghost use Prim.Native.Nat.{_<_};
+ghost use Rattle.forcelog.specs.Log.{coldLog, stepped, linesIn, later, refusedAt, afterStep, takeOf, endOf};
 
 // Mesh T.
 const X: [i32; 3] = [0, 100, 0];
@@ -27,14 +26,14 @@ const P: Parameters = Parameters {
     advection: false,
 };
 
-// The lines taken so far, and the run as they left it.
+// The input lines of the forcings taken so far, and the run as they left it. Each forcing that is taken is one step, so that the clock counts them.
 pub struct Log {
-    pub lines: u32,
+    pub lines: usize,
     pub clock: Clock,
-    pub state: [f64; 12],
+    pub state: [f64; 18],
 }
 
-// What taking a line hands back. The place of a refusal is the input line.
+// What taking a forcing hands back. The place of a refusal is the input line.
 pub struct Took {
     pub answer: Answer,
     pub log: Log,
@@ -44,7 +43,7 @@ pub struct Took {
 pub fn cold() -> Log
     ensures { λ r. ⌜ r ≡ coldLog ⌝ }
 {
-    let mut state = [0.0; 12];
+    let mut state = [0.0; 18];
     let opened = surge::open(&mut state, &X, &Y, &TRI, &H, &KIND, P);
     let clock = opened.clock;
     Log {
@@ -54,13 +53,33 @@ pub fn cold() -> Log
     }
 }
 
-// A refusal at the line that is due, which leaves the log as it was.
-fn refused(answer: Answer, log: Log) -> Took
-    ensures { λ r. ⌜ r ≡ refusedAt answer log ⌝ }
+// How many lines a forcing has: one of kind 10, or one of kind 14 and one of kind 15 for each node of T.
+fn lines_in(text: &[u8]) -> usize
+    ensures { λ r. ⌜ r ≡ linesIn (now (text .entry)) ⌝ }
+{
+    if reading::starts(text, b'1', b'0') {
+        return 1;
+    }
+    4
+}
+
+// So many lines on. The count stays where 64 bits do not hold it: `take` answers on every log, also on one with more lines than any input leads to.
+fn later(lines: usize, more: usize) -> usize
+    ensures { λ r. ⌜ r ≡ later lines more ⌝ }
+{
+    if more > 18446744073709551615 - lines {
+        return lines;
+    }
+    lines + more
+}
+
+// A refusal at an input line, which leaves the log as it was.
+fn refused(answer: Answer, place: usize, log: Log) -> Took
+    ensures { λ r. ⌜ r ≡ refusedAt answer place log ⌝ }
 {
     let at_line = Answer {
         number: answer.number,
-        place: log.lines as usize,
+        place,
         value: answer.value,
     };
     Took {
@@ -69,14 +88,13 @@ fn refused(answer: Answer, log: Log) -> Took
     }
 }
 
-// The step of a line that was read.
-fn step(forcing: Forcing, log: Log) -> Took
-    requires { ⌜ log .lines < 65536 ⌝ }
-    ensures { λ r. ⌜ r ≡ afterStep (stepped log forcing) log ⌝ }
+// The step of a forcing that was read, of so many lines. It is refused at the forcing's first line, which is the one that is due.
+fn step(forcing: &[f64], lines: usize, log: Log) -> Took
+    ensures { λ r. ⌜ r ≡ afterStep (stepped log (now (forcing .entry))) lines log ⌝ }
 {
     let state = log.state;
     let clock = log.clock;
-    let mut next = [0.0; 12];
+    let mut next = [0.0; 18];
     let mut work = [0.0; 15];
     let mut sums = [0u64; 3];
     let reply = surge::step(
@@ -84,6 +102,7 @@ fn step(forcing: Forcing, log: Log) -> Took
         &mut work,
         &mut sums,
         &state,
+        forcing,
         &X,
         &Y,
         &TRI,
@@ -91,13 +110,12 @@ fn step(forcing: Forcing, log: Log) -> Took
         &KIND,
         P,
         clock,
-        forcing,
     );
     let answer = reply.answer;
     if answer.number != 0 {
-        return refused(answer, log);
+        return refused(answer, log.lines, log);
     }
-    let lines = log.lines + 1;
+    let lines = later(log.lines, lines);
     let clock = reply.clock;
     let log = Log {
         lines,
@@ -107,17 +125,18 @@ fn step(forcing: Forcing, log: Log) -> Took
     Took { answer, log }
 }
 
-// The next line is read and stepped by. The sequence that is expected is how many lines were taken.
-pub fn take(line: &[u8], log: Log) -> Took
-    ensures { λ r. ⌜ r ≡ takeOf (now (line .entry)) log ⌝ }
+// The next forcing is read and stepped by. Of a line of kind 10 the sequence that is expected is how many forcings were taken.
+pub fn take(text: &[u8], log: Log) -> Took
+    ensures { λ r. ⌜ r ≡ takeOf (now (text .entry)) log ⌝ }
 {
-    let read = forcings::read_forcing(line, log.lines);
-    let fault = read.answer;
+    let clock = log.clock;
+    let mut forcing = [0.0; 7];
+    let fault = forcings::read_forcing(&mut forcing, text, clock.step);
     if fault.number != 0 {
-        return refused(fault, log);
+        let place = later(log.lines, fault.place);
+        return refused(fault, place, log);
     }
-    let forcing = read.forcing;
-    step(forcing, log)
+    step(&forcing, lines_in(text), log)
 }
 
 // The save of the log's run.

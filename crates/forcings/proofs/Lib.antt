@@ -1,1 +1,3 @@
+pub mod ForcingLaws
+mod RoomLaws
 pub mod SpellingLaws

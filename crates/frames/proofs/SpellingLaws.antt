@@ -1,16 +1,17 @@
 -- Document 02, #104: a text is read as the same text in upper case is, character by character and line by line.
-use Prim.Native.Nat.{ℕ, zero, suc, _*_, _/_, _%_, _+_, _≤_, _<_}
+use Prim.Native.Nat.{ℕ, zero, suc, _-_, _*_, _/_, _%_, _+_, _≤_, _<_}
 use mathlib.Core.Path.{_≡_, refl, sym, ap, _∙_}
 use mathlib.Core.List.{List, [], _∷_, _++_}
-use mathlib.Core.Bool.{Bool, true, false, _&&_, _||_, not, Bool·beq}
+use mathlib.Core.Bool.{Bool, true, false, _&&_, _||_, not, cond}
 use native.Mathlib.Omega.{arith}
-use borrow.Author.Tests.{ltb-true, ltb-false, le-leb, lt-leb, eqb-true}
-use lib.Dec.{ltb, eqb}
-use lib.ListN.{take, drop, getD, length, List·getD-map}
+use borrow.Author.Tests.{ltb-true, ltb-false, leb-true, le-leb, lt-leb, eqb-true, ne-eqb}
+use lib.Dec.{lit<, leb, ltb, eqb}
+use lib.ListN.{take, drop, getD, length, length-map, List·getD-map}
 use Rattle.rows.specs.Scan.{row, _then_, scan}
 use Rattle.rows.proofs.ScanLaws.{both-left, both-right}
 use Rattle.frames.specs.Bytes.{digit, worth, isDigit, digits, byte, bytes, allDigits}
-use Rattle.frames.specs.Frames.{lineFeed}
+use Rattle.frames.specs.Frames.{Layout, lineFeed}
+use Rattle.frames.specs.Texts.{due, startOf, lineAt, starts}
 use Rattle.frames.specs.Spelling.{upper, inUpper, Spells}
 use Rattle.frames.specs.Reading.{value}
 use Rattle.frames.proofs.ByteLaws.{each-below}
@@ -49,17 +50,19 @@ digit-worth =
     said : (d : ℕ) → (not (isDigit d) || eqb (digit (worth d)) (upper d)) ≡ true → isDigit d ≡ true → digit (worth d) ≡ upper d
     said d t r = eqb-true _ _ (rw r at t)
 
--- a line feed, and nothing else, is one in upper case
-pub feed-upper : (d : ℕ) → eqb (upper d) lineFeed ≡ eqb d lineFeed
-unfolding upper scan _then_ row
-feed-upper = each (λ (d : ℕ). eqb (upper d) lineFeed ≡ eqb d lineFeed) (λ (d : ℕ). Bool·beq (eqb (upper d) lineFeed) (eqb d lineFeed)) (λ d. same _ _) refl
-    (λ d h. ap (λ (c : ℕ). eqb c lineFeed) (large d h))
+-- a character before A, as a line feed or one of 0 to 9, and nothing else, is that one in upper case
+below-upper : (a : ℕ) → a < 65 → (d : ℕ) → eqb (upper d) a ≡ eqb d a
+unfolding upper
+below-upper a h d = go (leb 97 d && leb d 102) refl
   where
-    same : (a b : Bool) → Bool·beq a b ≡ true → a ≡ b
-    same true true e = refl
-    same true false e = cc e
-    same false true e = cc e
-    same false false e = refl
+    go : (b : Bool) → (leb 97 d && leb d 102) ≡ b → eqb (cond b (d - 32) d) a ≡ eqb d a
+    go true e =
+        let l : 97 ≤ d = leb-true _ _ (both-left _ _ e) in
+        ne-eqb (d - 32) a (λ q. omega arith) ∙ sym (ne-eqb d a (λ q. omega arith))
+    go false e = refl
+
+pub feed-upper : (d : ℕ) → eqb (upper d) lineFeed ≡ eqb d lineFeed
+feed-upper = below-upper lineFeed (lit< tt)
 
 -- ---- texts
 pub bytes-upper : (t : List ℕ) → bytes (inUpper t) ≡ bytes t
@@ -74,9 +77,16 @@ right-upper [] = refl
 right-upper (a ∷ []) = refl
 right-upper (a ∷ b ∷ t) = rw (worth-upper a, worth-upper b, right-upper t)
 
-pub feed-at-upper : (t : List ℕ) (k : ℕ) → eqb (getD (inUpper t) k 0) lineFeed ≡ eqb (getD t k 0) lineFeed
+at-upper : (a : ℕ) → a < 65 → (t : List ℕ) (k : ℕ) → eqb (getD (inUpper t) k 0) a ≡ eqb (getD t k 0) a
 unfolding upper
-feed-at-upper t k = ap (λ (c : ℕ). eqb c lineFeed) (List·getD-map upper t k 0) ∙ feed-upper (getD t k 0)
+at-upper a h t k = ap (λ (c : ℕ). eqb c a) (List·getD-map upper t k 0) ∙ below-upper a h (getD t k 0)
+
+pub feed-at-upper : (t : List ℕ) (k : ℕ) → eqb (getD (inUpper t) k 0) lineFeed ≡ eqb (getD t k 0) lineFeed
+feed-at-upper = at-upper lineFeed (lit< tt)
+
+-- how a text starts, where that is with two of 0 to 9
+pub starts-upper : (a b : ℕ) → a < 65 → b < 65 → (t : List ℕ) → starts a b (inUpper t) ≡ starts a b t
+starts-upper a b ha hb t = rw (length-map t upper, at-upper a ha t 0, at-upper b hb t 1)
 
 pub value-upper : (t : List ℕ) (at width : ℕ) → value (inUpper t) at width ≡ value t at width
 unfolding value
@@ -92,6 +102,9 @@ pub drop-upper : (n : ℕ) (t : List ℕ) → drop n (inUpper t) ≡ inUpper (dr
 drop-upper zero t = refl
 drop-upper (suc n) [] = refl
 drop-upper (suc n) (d ∷ t) = drop-upper n t
+
+pub line-at-upper : (layout : ℕ → Layout) (t : List ℕ) (j : ℕ) → lineAt layout (inUpper t) j ≡ inUpper (lineAt layout t j)
+line-at-upper layout t j = rw (drop-upper (startOf layout j) t) (take-upper (due layout j + 1) (drop (startOf layout j) t))
 
 -- ---- a line that is read is, in upper case, the line that its bytes are written as
 feed-self : upper lineFeed ≡ lineFeed

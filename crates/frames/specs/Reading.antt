@@ -16,9 +16,9 @@ value line at width = cond (leb width 8) (number (take width (drop at (bytes lin
 abbrev pub float : List ℕ → ℕ → Float
 float line at = ofBits binary64 (value line at 8)
 
--- the four fields of 8 bytes that follow kind and sequence, as in a node's line
+-- the six fields of 8 bytes that follow kind and sequence, as in a node's line
 unfoldable pub values : List ℕ → List ℕ
-values line = value line 3 8 ∷ value line 11 8 ∷ value line 19 8 ∷ value line 27 8 ∷ []
+values line = value line 3 8 ∷ value line 11 8 ∷ value line 19 8 ∷ value line 27 8 ∷ value line 35 8 ∷ value line 43 8 ∷ []
 
 -- what one pass over a text gives: the sum of its bytes, and whether they are made of digits
 unfoldable pub tallied : List ℕ → Tally

@@ -29,16 +29,15 @@ pub(crate) fn byte_at(text: &[u8], k: usize) -> u8
     high % 16 * 16 + low % 16
 }
 
-// The 36 bytes of the longest frame. Their number is fixed, so that the compiler vectorises the loop.
-pub(crate) fn frame(text: &[u8]) -> [u8; 36]
-    requires { ⌜ 72 ≤ length (now text) ⌝ }
-    ensures { λ r. ⌜ r ≡ take 36 (bytes (now (text .entry))) ⌝ }
+// As many bytes of a text as `out` has places. Each caller lends an array, whose length is fixed, so that the compiler vectorises the loop.
+pub(crate) fn frame(out: &mut [u8], text: &[u8])
+    requires { ⌜ 2 * length (now out) ≤ length (now text) ⌝ }
+    ensures { λ _. ⌜ now (out .exit) ≡ take (length (now (out .entry))) (bytes (now (text .entry))) ⌝ }
 {
-    let mut out = [0u8; 36];
-    for k in 0..36 {
+    let n = out.len();
+    for k in 0..n {
         out[k] = byte_at(text, k);
     }
-    out
 }
 
 // The sum of a text's bytes, modulo 256, and whether they are made of digits.

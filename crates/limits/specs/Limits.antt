@@ -1,5 +1,5 @@
 -- Document 01, "Refusal table", rows 8 to 12 on single values, each under its line of the table.
-use Prim.Native.Nat.{ℕ}
+use Prim.Native.Nat.{ℕ, _+_}
 use mathlib.Core.Bool.{Bool, _&&_, not}
 use lib.Dec.{eqb, leb}
 use lib.Ieee.{Float, le}
@@ -24,20 +24,27 @@ row9 p =
     then row (within (decimal 0 1) (p .k) (decimal 1 1)) 9 2
     then row (within (minus 1 1000) (p .f) (decimal 1 1000)) 9 3
 
--- | 10 | either z beyond 30 in size, present h+z below 0.1, U or V beyond 20 | node |
+-- a wind that is not beyond 0.1, as rows 10 and 12 ask it
+unfoldable pub isCalm : Wind → Bool
+isCalm w = within (minus 1 10) (w .x) (decimal 1 10) && within (minus 1 10) (w .y) (decimal 1 10)
+
+-- | 10 | either z beyond 30 in size, present h+z below 0.1, U or V beyond 20 | node |. Document 02, #105: "Row 10 gains the node winds at 0.1, after U
+-- and V."
+abbrev pub held : Node → Wind
+held c = record { x = c .wx; y = c .wy }
+
 unfoldable pub inBounds : Node → Bool
-inBounds c = inSize 30 (c .earlier) && inSize 30 (c .z) && le tenth (c .h ⊕ c .z) && inSize 20 (c .u) && inSize 20 (c .v)
+inBounds c =
+    inSize 30 (c .earlier) && inSize 30 (c .z) && le tenth (c .h ⊕ c .z) && inSize 20 (c .u) && inSize 20 (c .v) && isCalm (held c)
 
 -- | 11 | step number is 4,294,967,295 |
 unfoldable pub row11 : ℕ → Answer
 row11 step = row (not (eqb step 4294967295)) 11 0
 
--- | 12 | held wind beyond 0.1; forcing elevation beyond 30; Wx', Wy' beyond 0.1 | 0; 1; 2, 3 |
-abbrev pub calm : Float → Bool
-calm w = within (minus 1 10) w (decimal 1 10)
+-- | 12 | … forcing elevation beyond 30; Wx', Wy' beyond 0.1 |. Document 02, #105: "12 keeps only the forcing, with place 1 for the elevation and 2+i for
+-- node i."
+unfoldable pub row12Level : Float → Answer
+row12Level elevation = row (inSize 30 elevation) 12 1
 
-unfoldable pub row12Held : Wind → Answer
-row12Held w = row (calm (w .x) && calm (w .y)) 12 0
-
-unfoldable pub row12New : Float → Wind → Answer
-row12New elevation w = row (inSize 30 elevation) 12 1 then row (calm (w .x)) 12 2 then row (calm (w .y)) 12 3
+unfoldable pub row12Wind : Wind → ℕ → Answer
+row12Wind w i = row (isCalm w) 12 (2 + i)

@@ -1,4 +1,4 @@
-// The limits of document 01 on single values: what rows 8 to 12 of the refusal table ask of a node, the parameters, a clock and a forcing.
+// The limits of document 01 on single values: what rows 8 to 12 of the refusal table ask of a node, the parameters, a clock, a wind and an elevation.
 use quantities::Node;
 use quantities::Parameters;
 use quantities::Wind;
@@ -6,7 +6,7 @@ use rows::Answer;
 ghost use mathlib.Core.Path.{_≡_};
 ghost use Rattle.rows.specs.Numbers.{within};
 ghost use Rattle.rows.specs.Scan.{row};
-ghost use Rattle.limits.specs.Limits.{isNode, row9, inBounds, row11, row12Held, row12New};
+ghost use Rattle.limits.specs.Limits.{isNode, row9, isCalm, inBounds, row11, row12Level};
 
 // Row 8 of one node: its depth and its kind.
 pub fn is_node(h: f64, kind: u8) -> bool
@@ -33,13 +33,21 @@ pub fn parameters(p: Parameters) -> Answer
     rows::first(dt, rows::first(tau, rows::first(k, f)))
 }
 
+// A wind within 0.1, as rows 10 and 12 ask it of one that is held and of a new one.
+pub fn is_calm(w: Wind) -> bool
+    ensures { λ r. ⌜ r ≡ isCalm w ⌝ }
+{
+    rows::in_range(-0.1, w.x, 0.1) & rows::in_range(-0.1, w.y, 0.1)
+}
+
 // Row 10 of one node.
 pub fn in_bounds(c: Node) -> bool
     ensures { λ r. ⌜ r ≡ inBounds c ⌝ }
 {
     let level = rows::in_range(-30.0, c.earlier, 30.0) & rows::in_range(-30.0, c.z, 30.0);
     let column = 0.1 <= c.h + c.z;
-    level & column & rows::in_range(-20.0, c.u, 20.0) & rows::in_range(-20.0, c.v, 20.0)
+    let slow = level & column & rows::in_range(-20.0, c.u, 20.0) & rows::in_range(-20.0, c.v, 20.0);
+    slow & is_calm(Wind { x: c.wx, y: c.wy })
 }
 
 // Row 11: the last step number.
@@ -49,20 +57,9 @@ pub fn may_count(step: u32) -> Answer
     rows::tested(step != 4294967295, 11, 0)
 }
 
-// Row 12 of the wind that is held.
-pub fn held_wind(w: Wind) -> Answer
-    ensures { λ r. ⌜ r ≡ row12Held w ⌝ }
+// Row 12 of a forcing's elevation.
+pub fn elevation(z: f64) -> Answer
+    ensures { λ r. ⌜ r ≡ row12Level z ⌝ }
 {
-    let calm = rows::in_range(-0.1, w.x, 0.1) & rows::in_range(-0.1, w.y, 0.1);
-    rows::tested(calm, 12, 0)
-}
-
-// Row 12 of a forcing: its elevation and its wind.
-pub fn forcing(elevation: f64, w: Wind) -> Answer
-    ensures { λ r. ⌜ r ≡ row12New elevation w ⌝ }
-{
-    let level = limit(-30.0, elevation, 30.0, 12, 1);
-    let wx = limit(-0.1, w.x, 0.1, 12, 2);
-    let wy = limit(-0.1, w.y, 0.1, 12, 3);
-    rows::first(level, rows::first(wx, wy))
+    limit(-30.0, z, 30.0, 12, 1)
 }

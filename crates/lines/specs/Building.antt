@@ -8,9 +8,9 @@ use Rattle.frames.specs.Bytes.{digits, bytes, field, check}
 use Rattle.frames.specs.Frames.{Field, opening, lineFeed}
 use Rattle.lines.specs.declared.Line.{Line}
 
--- "a byte array of 72 digits plus line feed"
+-- "a byte array of 72 digits plus line feed"; Document 02, #105: "node lines 06 with six values", 104 digits
 abbrev pub longest : ℕ
-longest = 73
+longest = 105
 
 -- what a line holds
 unfoldable pub written : Line → List ℕ

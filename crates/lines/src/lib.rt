@@ -6,7 +6,7 @@ ghost use Rattle.frames.specs.Bytes.{digit, digits, field};
 ghost use Rattle.lines.specs.Building.{appended, begun, sealed, putOut, putOf};
 
 // The digits of the longest line, and its line feed.
-const LONGEST: usize = 73;
+const LONGEST: usize = 105;
 
 // What a line may hold at most, so that check byte and line feed still go behind it.
 const SEALABLE: usize = LONGEST - 3;

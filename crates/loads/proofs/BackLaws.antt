@@ -1,106 +1,248 @@
--- The way back, line by line: what is read of a save's text is what was written.
-use Prim.Native.Nat.{ℕ, zero, suc, _+_, _*_, _<_, _≤_}
+-- The way back, line by line: what is read of a save's text of either edition is what was written.
+use Prim.Native.Nat.{ℕ, zero, suc, _+_, _*_, _^_, _<_, _≤_}
 use mathlib.Core.Path.{_≡_, refl, sym, ap, _∙_}
-use mathlib.Core.Bool.{Bool, true, false, cond, _||_}
-use mathlib.Core.List.{List, [], _++_, append-nil, append-assoc}
-use mathlib.Core.Logic.{⊎-elim}
-use native.Mathlib.Nat.{not-suc-le-zero, le-of-suc-le-suc, eq-or-lt-of-le}
+use mathlib.Core.Bool.{Bool, true, false, cond, _&&_}
+use mathlib.Core.List.{List, [], _∷_}
 use native.Mathlib.Omega.{arith}
-use borrow.Author.Tests.{lt-ltb, ltb-true, ltb-false, eq-eqb}
-use lib.Dec.{ltb, eqb, lit<, lit≤}
-use lib.ListN.{getD}
-use lib.Seq.{take-at, drop-at}
-use lib.Ieee.{Float, nan}
+use borrow.Author.Tests.{lt-ltb, eq-eqb, le-leb}
+use lib.Dec.{T, ltb, leb, eqb, lit<, lit≤}
+use lib.ListN.{length, getD, take}
+use lib.Ieee.{Float, nan, binary64, fits}
 use Rattle.rows.specs.Scan.{accepted}
 use Rattle.rows.proofs.ScanLaws.{row-holds, then-next}
-use Rattle.frames.specs.Frames.{text, digitsOf}
+use Rattle.lists.proofs.RunLaws.{runs-length}
+use Rattle.quantities.specs.declared.Parameters.{Parameters}
+use Rattle.quantities.specs.declared.Wind.{Wind}
+use Rattle.patterns.proofs.PatternLaws.{pattern-fits}
+use Rattle.frames.specs.Bytes.{digit, digits, field}
+use Rattle.frames.specs.Frames.{line, text, fieldBytes, checked, digitsOf, bits}
 use Rattle.frames.specs.Reading.{value}
-use Rattle.faults.specs.Faults.{fault}
+use Rattle.frames.specs.Texts.{startOf, starts}
 use Rattle.frames.proofs.BackLaws.{field-back, float-field}
+use Rattle.frames.proofs.FrameLaws.{text-length}
+use Rattle.frames.proofs.TextLaws.{line-back}
+use Rattle.faults.specs.Faults.{fault, lineFault}
 use Rattle.faults.proofs.FaultLaws.{line-fine}
-use Rattle.surge.specs.declared.Clock.{Clock}
-use Rattle.saves.specs.Lines.{head, stateValues, nodeLine, end, nodeLayout, endLayout, layoutAt, due}
-use Rattle.loads.specs.Storable.{StorableClock, StorableState}
-use Rattle.saves.specs.Save.{lineOf, linesTo, saveText}
-use Rattle.loads.specs.Load.{lineAt, row23, lineRows, clockOf, loadedNode, loadedState}
-use Rattle.saves.proofs.LineLaws.{line-long, lines-long}
+use Rattle.surge.proofs.NextLaws.{six-runs}
 use Rattle.bounds.specs.State.{nodeOf}
+use Rattle.saves.specs.Lines.{Edition, Values, head2, run2, node1, node2, endLayout, edition1, edition2, layoutAt, lineCount, lineOf, textOf}
+use Rattle.saves.specs.Save.{Saved, runValues, stateValues, stateValues1, values1, values2, saveText, saveText1, withWind}
+use Rattle.saves.proofs.LineLaws.{Fitting, all-laid, line-long, fit1, fit2}
+use Rattle.loads.specs.Storable.{StorableClock, StorableState, StorableParameters}
+use Rattle.loads.specs.Load.{editionOf, row23, row25, lineIn, lineRows, clockIn, nodeIn, stateIn}
 use Rattle.loads.proofs.NodeLaws.{loaded-all}
 
-module _ (n e : ℕ) (state : List Float) (k : Clock) where
-  -- line j of the first m lines, whatever follows them
-  line-among : (m j : ℕ) (rest : List ℕ) → j < m → lineAt n (linesTo n e state k m ++ rest) j ≡ text (lineOf n e state k j)
-  unfolding linesTo
-  line-among zero j rest h = absurd (not-suc-le-zero h)
-  line-among (suc m) j rest h =
-      rw append-assoc (⊎-elim here (λ l. line-among m j (text (lineOf n e state k m) ++ rest) l) (eq-or-lt-of-le (le-of-suc-le-suc h)))
-    where
-      here : j ≡ m → lineAt n (linesTo n e state k m ++ (text (lineOf n e state k m) ++ rest)) j ≡ text (lineOf n e state k j)
-      here q = rw (q, drop-at _ _ _ (lines-long n e state k m), take-at _ _ _ (line-long n e state k m))
-
+-- ---- in either edition
+module _ (d : Edition) (n : ℕ) (v : Values) (fit : Fitting d n v) where
   -- each line of a save's text is the line that was written
-  line-back : (j : ℕ) → j < n + 2 → lineAt n (saveText n e state k) j ≡ text (lineOf n e state k j)
-  line-back j h = rw append-nil at (line-among (n + 2) j [] h)
+  line-found : (j : ℕ) → j < lineCount d n → lineIn d n (textOf d n v) j ≡ text (lineOf d n v j)
+  line-found j h = line-back (layoutAt d n) (lineOf d n v) (line-long d n v fit) (lineCount d n) j h
 
-  module _ (few : n ≤ 4096) where
-    -- rows 20, 21, 22 over the line that was written, and then 23
-    fault-fine : (j : ℕ) → j < n + 2 → fault (text (lineOf n e state k j)) (due n j) (layoutAt n j .kind) j j ≡ accepted
-    unfolding lineOf
-    fault-fine zero h = line-fine (head n e k) 0 (lit< tt) (lit< tt)
-    fault-fine (suc i) h = go (ltb i n) refl
+  -- rows 20, 21, 22 over the line that was written
+  fault-fine : (j : ℕ) → j < lineCount d n → layoutAt d n j .kind < 256 → j < 65536 → lineFault (layoutAt d n) (textOf d n v) j ≡ accepted
+  unfolding lineFault
+  fault-fine j h k s =
+      let f = lineOf d n v j in
+      rw (line-found j h)
+      (ap (λ (ws : List ℕ). fault (text f) (digitsOf ws) (layoutAt d n j .kind) j j) (sym (all-laid (layoutAt d n j .widths) _ (fit j))) ∙ line-fine f j k s)
+
+-- a text starts as its first line does
+starts-first : (a b k : ℕ) (t : List ℕ) → starts a b (take (suc (suc k)) t) ≡ starts a b t
+starts-first a b k [] = refl
+starts-first a b k (x ∷ []) = refl
+starts-first a b k (x ∷ y ∷ t) = rw (le-leb 2 (length (x ∷ y ∷ take k t)) (omega arith), le-leb 2 (length (x ∷ y ∷ t)) (omega arith))
+
+-- what starts with 0 and another digit than 1 is of edition 2
+other-digit : (t : List ℕ) → eqb (getD t 1 0) 49 ≡ false → starts 48 49 t ≡ false
+other-digit t e = rw e (go (leb 2 (length t)) (eqb (getD t 0 0) 48))
+  where
+    go : (a b : Bool) → (a && (b && false)) ≡ false
+    go true true = refl
+    go true false = refl
+    go false b = refl
+
+-- ---- edition 2
+module _ (s : Saved) where
+  abbrev t2 : List ℕ
+  t2 = saveText s
+
+  pub found2 : (j : ℕ) → j < lineCount edition2 (s .n) → lineIn edition2 (s .n) t2 j ≡ text (lineOf edition2 (s .n) (values2 s) j)
+  found2 = line-found edition2 (s .n) (values2 s) (fit2 s)
+
+  -- its text is read as edition 2
+  pub edition-2 : editionOf t2 ≡ edition2
+  unfolding startOf text fieldBytes checked digits digit field
+  edition-2 =
+      let first = found2 0 (omega arith) in
+      let other = other-digit (text (lineOf edition2 (s .n) (values2 s) 0)) refl in
+      ap (λ (b : Bool). cond b edition1 edition2) (sym (starts-first 48 49 23 t2) ∙ ap (starts 48 49) first ∙ other)
+
+  small-kind2 : (j : ℕ) → layoutAt edition2 (s .n) j .kind < 256
+  small-kind2 zero = lit< tt
+  small-kind2 (suc zero) = lit< tt
+  small-kind2 (suc (suc i)) = go (ltb i (s .n))
+    where
+      go : (b : Bool) → cond b node2 endLayout .kind < 256
+      go true = lit< tt
+      go false = lit< tt
+
+  -- a run whose numbers the fields can hold
+  module _ (few : s .n ≤ 4096) (few-triangles : s .e < 65536) (small : s .sum < 256 ^ 8) (sp : StorableParameters (s .p)) where
+    counts-2 : (j : ℕ) → row23 (s .n) (s .e) (text (lineOf edition2 (s .n) (values2 s) j)) (layoutAt edition2 (s .n) j .kind) j ≡ accepted
+    unfolding row23
+    counts-2 zero =
+        let f = line head2 0 (s .n ∷ s .e ∷ s .clock .step ∷ []) in
+        let its-n : value (text f) 3 2 ≡ s .n = field-back f 0 (lit< tt) (record { narrow = lit≤ tt; small = omega arith }) in
+        let its-e : value (text f) 5 2 ≡ s .e = field-back f 1 (lit< tt) (record { narrow = lit≤ tt; small = few-triangles }) in
+        row-holds 23 0 (rw (eq-eqb _ _ its-n, eq-eqb _ _ its-e))
+    counts-2 (suc zero) = row-holds 23 1 refl
+    counts-2 (suc (suc i)) = go (ltb i (s .n))
       where
-        go : (b : Bool) → ltb i n ≡ b → let l = cond b nodeLayout endLayout in
-            fault (text (cond b (nodeLine i (stateValues n state i)) (end n))) (digitsOf (l .widths)) (l .kind) (suc i) (suc i) ≡ accepted
-        go true q =
-            ap (λ (s : ℕ). fault (text (nodeLine i (stateValues n state i))) 72 2 s (suc i)) (omega arith)
-            ∙ line-fine (nodeLine i (stateValues n state i)) (suc i) (lit< tt) (omega (arith, ltb-true i n q))
-        go false q =
-            ap (λ (s : ℕ). fault (text (end n)) 12 3 s (suc i)) (omega (arith, ltb-false i n q))
-            ∙ line-fine (end n) (suc i) (lit< tt) (omega arith)
+        go : (b : Bool) → let l = cond b node2 endLayout in
+            row23 (s .n) (s .e) (text (line l (suc (suc i)) (cond b (stateValues (s .n) (s .state) i) (s .n ∷ [])))) (l .kind) (suc (suc i)) ≡ accepted
+        go true = row-holds 23 (suc (suc i)) refl
+        go false =
+            let f = line endLayout (suc (suc i)) (s .n ∷ []) in
+            row-holds 23 (suc (suc i)) (eq-eqb _ _ (field-back f 0 (lit< tt) (record { narrow = lit≤ tt; small = omega arith })))
 
-    module _ (few-triangles : e < 65536) where
-      counts-same : (j : ℕ) → row23 n e (text (lineOf n e state k j)) j ≡ accepted
-      unfolding lineOf row23
-      counts-same zero =
-          let its-n : value (text (head n e k)) 3 2 ≡ n = field-back (head n e k) 0 (lit< tt) (record { narrow = lit≤ tt; small = omega arith }) in
-          let its-e : value (text (head n e k)) 5 2 ≡ e = field-back (head n e k) 1 (lit< tt) (record { narrow = lit≤ tt; small = few-triangles }) in
-          row-holds 23 0 (rw (eq-eqb _ _ its-n, eq-eqb _ _ its-e))
-      counts-same (suc i) = row-holds 23 (suc i) (go (ltb i n))
-        where
-          go : (b : Bool) → (b || eqb (value (text (cond b (nodeLine i (stateValues n state i)) (end n))) 3 2) n) ≡ true
-          go true = refl
-          go false = eq-eqb _ _ (field-back (end n) 0 (lit< tt) (record { narrow = lit≤ tt; small = omega arith }))
+    settings-2 : (j : ℕ) → row25 (s .p) (s .sum) (text (lineOf edition2 (s .n) (values2 s) j)) (layoutAt edition2 (s .n) j .kind) j ≡ accepted
+    unfolding row25
+    settings-2 zero = row-holds 25 0 refl
+    settings-2 (suc zero) =
+        let f = line run2 1 (runValues (s .p) (s .sum)) in
+        let dt : value (text f) 3 8 ≡ bits (s .p .dt) = field-back f 0 (lit< tt) (record { narrow = lit≤ tt; small = pattern-fits _ (sp .dt) }) in
+        let tau : value (text f) 11 8 ≡ bits (s .p .tau) = field-back f 1 (lit< tt) (record { narrow = lit≤ tt; small = pattern-fits _ (sp .tau) }) in
+        let k : value (text f) 19 8 ≡ bits (s .p .k) = field-back f 2 (lit< tt) (record { narrow = lit≤ tt; small = pattern-fits _ (sp .k) }) in
+        let c : value (text f) 27 8 ≡ bits (s .p .f) = field-back f 3 (lit< tt) (record { narrow = lit≤ tt; small = pattern-fits _ (sp .f) }) in
+        let areas : value (text f) 35 8 ≡ s .sum = field-back f 4 (lit< tt) (record { narrow = lit≤ tt; small = small }) in
+        row-holds 25 1 (rw (eq-eqb _ _ dt, eq-eqb _ _ tau, eq-eqb _ _ k, eq-eqb _ _ c, eq-eqb _ _ areas))
+    settings-2 (suc (suc i)) = go (ltb i (s .n))
+      where
+        go : (b : Bool) → let l = cond b node2 endLayout in
+            row25 (s .p) (s .sum) (text (line l (suc (suc i)) (cond b (stateValues (s .n) (s .state) i) (s .n ∷ [])))) (l .kind) (suc (suc i)) ≡ accepted
+        go true = row-holds 25 (suc (suc i)) refl
+        go false = row-holds 25 (suc (suc i)) refl
 
-      -- no line of a save's text is refused by 20, 21, 22 or 23
-      pub lines-fine : (j : ℕ) → j < n + 2 → lineRows n e (saveText n e state k) j ≡ accepted
-      unfolding lineRows
-      lines-fine j h = rw (line-back j h, fault-fine j h) (then-next accepted _ refl ∙ counts-same j)
+    -- no line of a save's text is refused
+    pub lines-fine : (j : ℕ) → j < lineCount edition2 (s .n) → lineRows edition2 (s .n) t2 (s .e) (s .sum) (s .p) j ≡ accepted
+    unfolding lineRows
+    lines-fine j h =
+        rw (fault-fine edition2 (s .n) (values2 s) (fit2 s) j h (small-kind2 j) (omega arith), found2 j h)
+        (then-next accepted _ refl ∙ rw (counts-2 j) (then-next accepted _ refl ∙ settings-2 j))
 
-  -- ---- a run whose numbers a save's fields can hold
   -- the clock that is read of a save's text is the one that was saved
-  pub clock-back : StorableClock k → clockOf n (saveText n e state k) ≡ k
-  unfolding clockOf lineOf
-  clock-back s =
-      let l = head n e k in
-      let its-step : value (text l) 7 4 ≡ k .step = field-back l 2 (lit< tt) (record { narrow = lit≤ tt; small = s .step }) in
-      rw (line-back 0 (omega arith))
-      (λ i. record { step = its-step i; wx = float-field l 3 (lit< tt) (k .wx) refl (s .wx) i; wy = float-field l 4 (lit< tt) (k .wy) refl (s .wy) i })
+  pub clock-back : StorableClock (s .clock) → clockIn edition2 (s .n) t2 ≡ s .clock
+  unfolding clockIn
+  clock-back c =
+      let f = line head2 0 (s .n ∷ s .e ∷ s .clock .step ∷ []) in
+      let its-step : value (text f) 7 4 ≡ s .clock .step = field-back f 2 (lit< tt) (record { narrow = lit≤ tt; small = c .step }) in
+      rw (found2 0 (omega arith)) (λ i. record { step = its-step i })
 
-  module _ (s : StorableState n state) (h : List Float) where
+  module _ (ss : StorableState (s .n) (s .state)) (h : List Float) where
     -- the values of node i that are read of a save's text are those that the state has there
-    pub node-back : (i : ℕ) → i < n → nodeOf n h state i ≡ loadedNode n h (saveText n e state k) i
-    unfolding loadedNode lineOf
+    pub node-back : (i : ℕ) → i < s .n → nodeOf (s .n) h (s .state) i ≡ nodeIn edition2 (s .n) t2 h i
+    unfolding nodeIn
     node-back i l =
-        let f = nodeLine i (stateValues n state i) in
-        rw (line-back (suc i) (omega arith), lt-ltb i n l)
+        let n = s .n in
+        let f = line node2 (suc (suc i)) (stateValues n (s .state) i) in
+        rw (found2 (suc (suc i)) (omega arith), lt-ltb i n l)
         (λ j. record {
           h = getD h i nan;
-          earlier = sym (float-field f 0 (lit< tt) _ refl (s .values (0 * n + i) (omega arith))) j;
-          z = sym (float-field f 1 (lit< tt) _ refl (s .values (1 * n + i) (omega arith))) j;
-          u = sym (float-field f 2 (lit< tt) _ refl (s .values (2 * n + i) (omega arith))) j;
-          v = sym (float-field f 3 (lit< tt) _ refl (s .values (3 * n + i) (omega arith))) j;
+          earlier = sym (float-field f 0 (lit< tt) _ refl (ss .values (0 * n + i) (omega arith))) j;
+          z = sym (float-field f 1 (lit< tt) _ refl (ss .values (1 * n + i) (omega arith))) j;
+          u = sym (float-field f 2 (lit< tt) _ refl (ss .values (2 * n + i) (omega arith))) j;
+          v = sym (float-field f 3 (lit< tt) _ refl (ss .values (3 * n + i) (omega arith))) j;
+          wx = sym (float-field f 4 (lit< tt) _ refl (ss .values (4 * n + i) (omega arith))) j;
+          wy = sym (float-field f 5 (lit< tt) _ refl (ss .values (5 * n + i) (omega arith))) j;
         })
 
     -- and the state is the one that was saved
-    pub state-back : loadedState n h (saveText n e state k) ≡ state
-    state-back = sym (loaded-all n h (saveText n e state k) state (s .long) node-back)
+    pub state-back : stateIn edition2 (s .n) t2 h ≡ s .state
+    state-back = sym (loaded-all edition2 (s .n) t2 h (s .state) (ss .long) node-back)
+
+-- ---- edition 1: the text that document 01's own rules give for a run with one wind
+module _ (n e : ℕ) (state : List Float) (step : ℕ) (w : Wind) where
+  abbrev t1 : List ℕ
+  t1 = saveText1 n e state step w
+
+  abbrev v1 : Values
+  v1 = values1 n e state step w
+
+  found1 : (j : ℕ) → j < lineCount edition1 n → lineIn edition1 n t1 j ≡ text (lineOf edition1 n v1 j)
+  found1 = line-found edition1 n v1 (fit1 n e state step w)
+
+  -- it is read as edition 1
+  pub edition-1 : editionOf t1 ≡ edition1
+  unfolding startOf text fieldBytes checked digits digit field
+  edition-1 =
+      let first = found1 0 (omega arith) in
+      let f = lineOf edition1 n v1 0 in
+      let long : leb 2 (length (text f)) ≡ true = le-leb 2 (length (text f)) (omega (arith, text-length f)) in
+      let right : starts 48 49 (text f) ≡ true = rw long in
+      ap (λ (b : Bool). cond b edition1 edition2) (sym (starts-first 48 49 55 t1) ∙ ap (starts 48 49) first ∙ right)
+
+  small-kind1 : (j : ℕ) → layoutAt edition1 n j .kind < 256
+  small-kind1 zero = lit< tt
+  small-kind1 (suc i) = go (ltb i n)
+    where
+      go : (b : Bool) → cond b node1 endLayout .kind < 256
+      go true = lit< tt
+      go false = lit< tt
+
+  module _ (few : n ≤ 4096) (few-triangles : e < 65536) where
+    counts-1 : (j : ℕ) → row23 n e (text (lineOf edition1 n v1 j)) (layoutAt edition1 n j .kind) j ≡ accepted
+    unfolding row23
+    counts-1 zero =
+        let f = lineOf edition1 n v1 0 in
+        let its-n : value (text f) 3 2 ≡ n = field-back f 0 (lit< tt) (record { narrow = lit≤ tt; small = omega arith }) in
+        let its-e : value (text f) 5 2 ≡ e = field-back f 1 (lit< tt) (record { narrow = lit≤ tt; small = few-triangles }) in
+        row-holds 23 0 (rw (eq-eqb _ _ its-n, eq-eqb _ _ its-e))
+    counts-1 (suc i) = go (ltb i n)
+      where
+        go : (b : Bool) → let l = cond b node1 endLayout in row23 n e (text (line l (suc i) (cond b (stateValues1 n state i) (n ∷ [])))) (l .kind) (suc i) ≡ accepted
+        go true = row-holds 23 (suc i) refl
+        go false = row-holds 23 (suc i) (eq-eqb _ _ (field-back (line endLayout (suc i) (n ∷ [])) 0 (lit< tt) (record { narrow = lit≤ tt; small = omega arith })))
+
+    -- 25 is asked of no line
+    settings-1 : (p : Parameters) (sum : ℕ) (t : List ℕ) (j : ℕ) → row25 p sum t (layoutAt edition1 n j .kind) j ≡ accepted
+    unfolding row25
+    settings-1 p sum t zero = row-holds 25 0 refl
+    settings-1 p sum t (suc i) = go (ltb i n)
+      where
+        go : (b : Bool) → row25 p sum t (cond b node1 endLayout .kind) (suc i) ≡ accepted
+        go true = row-holds 25 (suc i) refl
+        go false = row-holds 25 (suc i) refl
+
+    pub lines-fine1 : (p : Parameters) (sum j : ℕ) → j < lineCount edition1 n → lineRows edition1 n t1 e sum p j ≡ accepted
+    unfolding lineRows
+    lines-fine1 p sum j h =
+        rw (fault-fine edition1 n v1 (fit1 n e state step w) j h (small-kind1 j) (omega arith), found1 j h)
+        (then-next accepted _ refl ∙ rw (counts-1 j) (then-next accepted _ refl ∙ settings-1 p sum _ j))
+
+  pub clock-back1 : step < 256 ^ 4 → clockIn edition1 n t1 ≡ record { step = step }
+  unfolding clockIn
+  clock-back1 c =
+      let f = lineOf edition1 n v1 0 in
+      let its-step : value (text f) 7 4 ≡ step = field-back f 2 (lit< tt) (record { narrow = lit≤ tt; small = c }) in
+      rw (found1 0 (omega arith)) (λ i. record { step = its-step i })
+
+  module _ (values : (j : ℕ) → j < 4 * n → T (fits binary64 (getD state j nan))) (fx : T (fits binary64 (w .x))) (fy : T (fits binary64 (w .y))) (h : List Float) where
+    pub node-back1 : (i : ℕ) → i < n → nodeOf n h (withWind n state w) i ≡ nodeIn edition1 n t1 h i
+    unfolding nodeIn
+    node-back1 i l =
+        let f = line node1 (suc i) (stateValues1 n state i) in
+        let o = lineOf edition1 n v1 0 in
+        six-runs n h _ _ _ _ _ _ i l
+        ∙ rw (found1 (suc i) (omega arith), found1 0 (omega arith), lt-ltb i n l)
+        (λ j. record {
+          h = getD h i nan;
+          earlier = sym (float-field f 0 (lit< tt) _ refl (values (0 * n + i) (omega arith))) j;
+          z = sym (float-field f 1 (lit< tt) _ refl (values (1 * n + i) (omega arith))) j;
+          u = sym (float-field f 2 (lit< tt) _ refl (values (2 * n + i) (omega arith))) j;
+          v = sym (float-field f 3 (lit< tt) _ refl (values (3 * n + i) (omega arith))) j;
+          wx = sym (float-field o 3 (lit< tt) (w .x) refl fx) j;
+          wy = sym (float-field o 4 (lit< tt) (w .y) refl fy) j;
+        })
+
+    pub state-back1 : stateIn edition1 n t1 h ≡ withWind n state w
+    state-back1 = sym (loaded-all edition1 n t1 h (withWind n state w) (runs-length n _) node-back1)

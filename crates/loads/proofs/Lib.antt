@@ -1,7 +1,9 @@
+pub mod EditionLaws
 pub mod NodeLaws
 pub mod LoadLaws
 pub mod StorableLaws
 pub mod BackLaws
 pub mod OwnLaws
+pub mod OldLaws
 pub mod SpellingLaws
 pub mod WrittenLaws

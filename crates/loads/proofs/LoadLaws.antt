@@ -1,5 +1,5 @@
--- The outcomes of a load: refused, and loaded; and what an accepted load leaves passes rows 10 and 12.
-use Prim.Native.Nat.{ℕ, _+_, _*_, _<_, _≤_}
+-- The outcomes of a load: refused, and loaded; and what an accepted load leaves passes row 10.
+use Prim.Native.Nat.{ℕ, _*_, _<_, _≤_}
 use mathlib.Core.Path.{_≡_, refl, ap}
 use mathlib.Core.Bool.{Bool, true, false}
 use mathlib.Core.List.{List}
@@ -12,23 +12,25 @@ use Rattle.rows.proofs.ScanLaws.{row-passed, then-first, then-rest, scan-clean,
 use Rattle.quantities.specs.declared.Parameters.{Parameters}
 use Rattle.surge.specs.declared.Clock.{Clock}
 use Rattle.mesh.specs.Lent.{Mesh, N, E}
-use Rattle.surge.specs.Lent.{After, after, windOf}
+use Rattle.surge.specs.Lent.{After, after}
 use Rattle.nodes.specs.Rows.{meshRows}
-use Rattle.limits.specs.Limits.{inBounds, row12Held}
+use Rattle.limits.specs.Limits.{inBounds}
 use Rattle.bounds.specs.State.{stateRuns, runRows}
 use Rattle.rows.specs.Scan.{accepted}
 use Rattle.lists.proofs.RunLaws.{runs-length}
 use Rattle.mesh.proofs.ShapedLaws.{shaped-asked}
 use Rattle.nodes.proofs.PartLaws.{mesh-parts, mesh-asked}
 use Rattle.bounds.proofs.StateLaws.{long-state, in-bounds}
-use Rattle.surge.proofs.NextLaws.{four-runs}
-use Rattle.saves.specs.Lines.{saveLength}
-use Rattle.loads.specs.Load.{lineRows, clockOf, loadedNode, loadAnswer, loadedState, loadOf}
+use Rattle.surge.proofs.NextLaws.{six-runs}
+use Rattle.areas.specs.Areas.{sumD}
+use Rattle.frames.specs.Texts.{startOf}
+use Rattle.saves.specs.Lines.{layoutAt, lineCount}
+use Rattle.loads.specs.Load.{editionOf, lineRows, trailingRow, clockIn, nodeIn, rowsIn, loadAnswer, stateIn, loadOf}
 
 module _ (m : Mesh) (p : Parameters) (t : List ℕ) (state : List Float) where
   -- the text's state and clock
   abbrev pub tookText : After
-  tookText = after (record { answer = loadAnswer m p t state; clock = clockOf (N m) t }) (loadedState (N m) (m .h) t)
+  tookText = after (record { answer = loadAnswer m p t state; clock = clockIn (editionOf t) (N m) t }) (stateIn (editionOf t) (N m) t (m .h))
 
   module _ (k : Clock) where
     -- state and clock as found
@@ -39,7 +41,7 @@ module _ (m : Mesh) (p : Parameters) (t : List ℕ) (state : List Float) where
     unfolding loadOf
     load-refused e h = rw (ne-eqb _ _ (other-number e h)) (ap (λ (b : Answer). after (record { answer = b; clock = k }) state) e)
 
-    pub load-taken : {a : Answer} {c : Clock} {new : List Float} → a ≡ loadAnswer m p t state → a .number ≡ 0 → c ≡ clockOf (N m) t → new ≡ loadedState (N m) (m .h) t
+    pub load-taken : {a : Answer} {c : Clock} {new : List Float} → a ≡ loadAnswer m p t state → a .number ≡ 0 → c ≡ clockIn (editionOf t) (N m) t → new ≡ stateIn (editionOf t) (N m) t (m .h)
         → after (record { answer = a; clock = c }) new ≡ loadOf m p t state k
     unfolding loadOf
     load-taken e h ec en = rw (eq-eqb _ _ (same-number e h)) (λ i. after (record { answer = e i; clock = ec i }) (en i))
@@ -80,26 +82,26 @@ module _ (m : Mesh) (p : Parameters) (t : List ℕ) (state : List Float) where
     unfolding loadAnswer
     load-mesh = mesh-asked _ m p (then-first _ _ ok)
 
-    -- rows 20 to 23 of each line, and no bytes after the last
-    pub line-read : (j : ℕ) → j < N m + 2 → lineRows (N m) (E m) t j .number ≡ 0
+    -- rows 20 to 23 and 25 of each line, and no bytes after the last
+    pub text-read : rowsIn (editionOf t) (N m) t (E m) (sumD m) p (m .h) .number ≡ 0
     unfolding loadAnswer
-    line-read j l = scan-clean _ _ (then-first _ _ (then-rest _ _ ok)) j l
+    text-read = then-rest _ _ ok
 
-    pub no-longer : length t ≤ saveLength (N m)
-    unfolding loadAnswer
-    no-longer = leb-true _ _ (row-passed _ 19 (N m + 2) (then-first _ _ (then-rest _ _ (then-rest _ _ ok))))
+    pub line-read : (j : ℕ) → j < lineCount (editionOf t) (N m) → lineRows (editionOf t) (N m) t (E m) (sumD m) p j .number ≡ 0
+    unfolding rowsIn
+    line-read j l = scan-clean _ _ (then-first _ _ text-read) j l
 
-    -- row 12 for the head's wind
-    pub loaded-wind : row12Held (windOf (clockOf (N m) t)) .number ≡ 0
-    unfolding loadAnswer
-    loaded-wind = then-first _ _ (then-rest _ _ (then-rest _ _ (then-rest _ _ ok)))
+    pub no-longer : length t ≤ startOf (layoutAt (editionOf t) (N m)) (lineCount (editionOf t) (N m))
+    unfolding rowsIn trailingRow
+    no-longer = leb-true _ _ (row-passed _ 19 _ (then-first _ _ (then-rest _ _ text-read)))
 
-    pub node-read : (i : ℕ) → i < N m → inBounds (loadedNode (N m) (m .h) t i) ≡ true
-    unfolding loadAnswer
-    node-read i l = row-passed _ 9 i (scan-clean _ _ (then-rest _ _ (then-rest _ _ (then-rest _ _ (then-rest _ _ ok)))) i l)
+    pub node-read : (i : ℕ) → i < N m → inBounds (nodeIn (editionOf t) (N m) t (m .h) i) ≡ true
+    unfolding rowsIn
+    node-read i l = row-passed _ 9 i (scan-clean _ _ (then-rest _ _ (then-rest _ _ text-read)) i l)
 
     -- row 10 over the loaded values
-    pub loaded-rows : runRows accepted m p (loadedState (N m) (m .h) t) .number ≡ 0
-    unfolding loadedState loadedNode
+    pub loaded-rows : runRows accepted m p (stateIn (editionOf t) (N m) t (m .h)) .number ≡ 0
+    unfolding stateIn nodeIn
     loaded-rows =
-        in-bounds m p (loadedState (N m) (m .h) t) load-mesh (runs-length (N m) _) (λ i l. rw (four-runs (N m) (m .h) _ _ _ _ i l) (node-read i l))
+        in-bounds m p (stateIn (editionOf t) (N m) t (m .h)) load-mesh (runs-length (N m) _)
+        (λ i l. rw (six-runs (N m) (m .h) _ _ _ _ _ _ i l) (node-read i l))

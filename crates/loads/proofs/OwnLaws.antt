@@ -1,78 +1,147 @@
--- The way back, whole: a save's own text is loaded to the run that was saved, and what any load gives is saved and loaded again.
-use Prim.Native.Nat.{ℕ, _+_, _*_, _<_, _≤_}
+-- The way back, whole: a save's own text is loaded to the run that was saved, what document 01's rules wrote is loaded with its wind at every node, and
+-- what any load gives is saved and loaded again.
+use Prim.Native.Nat.{ℕ, _*_, _^_, _<_, _≤_}
 use mathlib.Core.Path.{_≡_, refl, sym, ap, subst, _∙_}
 use mathlib.Core.List.{List, []}
 use native.Mathlib.Omega.{arith}
 use borrow.Author.Tests.{eq-eqb, le-leb}
-use lib.ListN.{length, take}
-use lib.Ieee.{Float}
+use lib.Dec.{T}
+use lib.ListN.{length, getD, take}
+use lib.Ieee.{Float, nan, binary64, fits}
 use Rattle.rows.specs.declared.Answer.{Answer}
 use Rattle.rows.specs.Scan.{accepted}
-use Rattle.rows.proofs.ScanLaws.{row-holds, then-first, then-rest, scan-none, same-number, goes}
+use Rattle.rows.proofs.ScanLaws.{row-holds, then-first, scan-none, same-number, goes}
 use Rattle.quantities.specs.declared.Parameters.{Parameters}
+use Rattle.quantities.specs.declared.Wind.{Wind}
+use Rattle.frames.specs.Texts.{startOf}
+use Rattle.frames.proofs.TextLaws.{lines-long}
 use Rattle.surge.specs.declared.Clock.{Clock}
 use Rattle.mesh.specs.Lent.{Mesh, N, E}
-use Rattle.surge.specs.Lent.{After, after, windOf}
-use Rattle.limits.specs.Limits.{row12Held}
+use Rattle.areas.specs.Areas.{sumD}
+use Rattle.areas.proofs.AreaLaws.{sum-small}
+use Rattle.surge.specs.Lent.{After, after}
 use Rattle.bounds.specs.State.{stateRuns, runRows}
 use Rattle.bounds.proofs.StateLaws.{AcceptedRun, accepted-run}
-use Rattle.loads.specs.Storable.{StorableClock, StorableState}
-use Rattle.saves.specs.Lines.{saveLength}
-use Rattle.saves.specs.Save.{saveText, saveAnswer, wrote, saveOf}
-use Rattle.loads.specs.Load.{row10Read, clockOf, loadAnswer, loadedState, loadOf}
-use Rattle.saves.proofs.LineLaws.{lines-long, save-long}
+use Rattle.saves.specs.Lines.{Edition, edition1, edition2, layoutAt, lineCount, lineOf, saveLength}
+use Rattle.saves.specs.Save.{Saved, savedOf, values1, values2, saveText, saveText1, withWind, saveAnswer, wrote, saveOf}
+use Rattle.saves.proofs.LineLaws.{fit1, fit2, line-long}
 use Rattle.saves.proofs.SaveLaws.{save-writes, save-accepts, save-answered, save-text}
-use Rattle.loads.proofs.LoadLaws.{load-took, loaded-rows, loaded-wind}
+use Rattle.loads.specs.Storable.{StorableClock, StorableState, StorableParameters}
+use Rattle.loads.specs.Load.{editionOf, row10In, lineRows, trailingRow, clockIn, rowsIn, loadAnswer, stateIn, loadOf}
+use Rattle.loads.proofs.LoadLaws.{load-took, loaded-rows}
 use Rattle.loads.proofs.StorableLaws.{clock-storable, state-storable}
-use Rattle.loads.proofs.BackLaws.{lines-fine, clock-back, node-back, state-back}
+use Rattle.loads.proofs.BackLaws.{edition-1, edition-2, lines-fine, lines-fine1, clock-back, clock-back1, node-back, node-back1, state-back, state-back1}
 
--- two runs on one mesh whose saves have the same text are the same run
-pub same-text : (n e : ℕ) (state₁ state₂ : List Float) (k₁ k₂ : Clock) → StorableState n state₁ → StorableState n state₂ → StorableClock k₁ → StorableClock k₂
-    → saveText n e state₁ k₁ ≡ saveText n e state₂ k₂ → (state₁ ≡ state₂) × (k₁ ≡ k₂)
-same-text n e state₁ state₂ k₁ k₂ s₁ s₂ c₁ c₂ same = (
-  sym (state-back n e state₁ k₁ s₁ []) ∙ ap (loadedState n []) same ∙ state-back n e state₂ k₂ s₂ [],
-  sym (clock-back n e state₁ k₁ c₁) ∙ ap (clockOf n) same ∙ clock-back n e state₂ k₂ c₂,
+-- two runs of N nodes whose saves have the same text are the same run
+pub same-text : (a b : Saved) → a .n ≡ b .n → StorableState (a .n) (a .state) → StorableState (b .n) (b .state) → StorableClock (a .clock) → StorableClock (b .clock)
+    → saveText a ≡ saveText b → (a .state ≡ b .state) × (a .clock ≡ b .clock)
+same-text a b q s₁ s₂ c₁ c₂ same = (
+  sym (state-back a s₁ []) ∙ (λ i. stateIn edition2 (q i) (same i) []) ∙ state-back b s₂ [],
+  sym (clock-back a c₁) ∙ (λ i. clockIn edition2 (q i) (same i)) ∙ clock-back b c₂,
 )
 
 passed : {a : Answer} → a ≡ accepted → a .number ≡ 0
 passed q = same-number (sym q) refl
 
-module _ (m : Mesh) (p : Parameters) (state : List Float) (k : Clock) (s : StorableState (N m) state) (c : StorableClock k) (old : List Float) (long : length old ≡ stateRuns * N m) where
+-- a text of either edition with no line refused, no bytes after them and every node in bounds, on a mesh that its rows accept
+text-fine : (m : Mesh) (p : Parameters) (d : Edition) (t : List ℕ) → ((j : ℕ) → j < lineCount d (N m) → lineRows d (N m) t (E m) (sumD m) p j ≡ accepted)
+    → length t ≤ startOf (layoutAt d (N m)) (lineCount d (N m)) → ((i : ℕ) → i < N m → row10In d (N m) t (m .h) i .number ≡ 0)
+    → accepted ≡ rowsIn d (N m) t (E m) (sumD m) p (m .h)
+unfolding rowsIn trailingRow
+text-fine m p d t lines no-more nodes =
+    goes _ (passed (scan-none _ (lineCount d (N m)) (λ j b. passed (lines j b))))
+    (goes _ (passed (row-holds 20 _ (le-leb _ _ no-more))) (sym (scan-none _ (N m) nodes)))
+
+-- where the rows accept, a load gives what the text holds
+load-gives : (m : Mesh) (p : Parameters) (t : List ℕ) (old : List Float) (clock : Clock) {k : Clock} {state : List Float} → accepted ≡ loadAnswer m p t old
+    → clockIn (editionOf t) (N m) t ≡ k → stateIn (editionOf t) (N m) t (m .h) ≡ state
+    → loadOf m p t old clock ≡ after (record { answer = accepted; clock = k }) state
+unfolding loadOf
+load-gives m p t old clock ok ek es = rw (← ok) (λ i. after (record { answer = accepted; clock = ek i }) (es i))
+
+module _ (m : Mesh) (p : Parameters) (old : List Float) (long : length old ≡ stateRuns * N m) where
   -- ---- a save's own text is loaded, over any state of the right length
-  module _ (ok : runRows accepted m p state .number ≡ 0) (held : row12Held (windOf k) .number ≡ 0) where
-    its : AcceptedRun accepted m p state
-    its = accepted-run _ _ _ _ ok
+  module _ (state : List Float) (k : Clock) (s : StorableState (N m) state) (c : StorableClock k) (sp : StorableParameters p) where
+    abbrev t2 : List ℕ
+    t2 = saveText (savedOf m p state k)
 
-    node-fine : (i : ℕ) → i < N m → row10Read (N m) (m .h) (saveText (N m) (E m) state k) i .number ≡ 0
-    node-fine i b = ap (λ (a : Answer). a .number) (row-holds 10 i (rw (← node-back (N m) (E m) state k s (m .h) i b) (its .bounds i b)))
+    no-more2 : length t2 ≤ startOf (layoutAt edition2 (N m)) (lineCount edition2 (N m))
+    no-more2 =
+        let v = values2 (savedOf m p state k) in
+        rw (lines-long (layoutAt edition2 (N m)) (lineOf edition2 (N m) v) (line-long edition2 (N m) v (fit2 (savedOf m p state k))) (lineCount edition2 (N m))) (omega arith)
 
-    -- where a save's rows accept the run, a load accepts its text
-    load-fine : accepted ≡ loadAnswer m p (saveText (N m) (E m) state k) old
-    unfolding loadAnswer
-    load-fine =
-        let sized = its .shape .sized in
-        let no-more : length (saveText (N m) (E m) state k) ≤ saveLength (N m) = rw (lines-long, save-long) (omega arith) in
-        goes _ (rw (row-holds 1 0 (eq-eqb _ _ long)) (its .mesh))
-        (goes _ (passed (scan-none _ (N m + 2) (λ j b. passed (lines-fine (N m) (E m) state k (sized .most-nodes) (omega (arith, sized .most-triangles)) j b))))
-        (goes _ (passed (row-holds 20 (N m + 2) (le-leb _ _ no-more)))
-        (goes _ (rw (clock-back (N m) (E m) state k c) held) (sym (scan-none _ (N m) node-fine)))))
+    module _ (ok : runRows accepted m p state .number ≡ 0) where
+      its : AcceptedRun accepted m p state
+      its = accepted-run _ _ _ _ ok
 
-    -- and gives the run that was saved: its clock and its state
-    pub load-own : (clock : Clock) → loadOf m p (saveText (N m) (E m) state k) old clock ≡ after (record { answer = accepted; clock = k }) state
-    unfolding loadOf
-    load-own clock = rw (← load-fine, clock-back (N m) (E m) state k c, state-back (N m) (E m) state k s (m .h))
+      node-fine : (i : ℕ) → i < N m → row10In edition2 (N m) t2 (m .h) i .number ≡ 0
+      node-fine i b = ap (λ (a : Answer). a .number) (row-holds 10 i (rw (← node-back (savedOf m p state k) s (m .h) i b) (its .bounds i b)))
 
-  -- ---- a save and a load
-  module _ (t : List ℕ) (done : saveOf m p state k t .answer .number ≡ 0) where
-    -- the bytes that an accepted save wrote, as many as its place says, are loaded to the run that was saved
-    pub saved-loaded : (clock : Clock)
-        → loadOf m p (take (saveOf m p state k t .answer .place) (saveOf m p state k t .text)) old clock ≡ after (record { answer = accepted; clock = k }) state
-    unfolding saveAnswer
-    saved-loaded clock =
-        let answered = save-answered m p state k t done in
-        rw (save-text m p state k t done) (load-own (then-first _ _ answered) (then-first _ _ (then-rest _ _ answered)) clock)
+      -- where a save's rows accept the run, a load accepts its text
+      load-fine : accepted ≡ loadAnswer m p t2 old
+      unfolding loadAnswer
+      load-fine =
+          let sized = its .shape .sized in
+          let fine = lines-fine (savedOf m p state k) (sized .most-nodes) (omega (arith, sized .most-triangles)) (sum-small m (its .shape)) sp in
+          goes _ (rw (row-holds 1 0 (eq-eqb _ _ long)) (its .mesh))
+          (subst (λ (d : Edition). accepted ≡ rowsIn d (N m) t2 (E m) (sumD m) p (m .h)) (sym (edition-2 (savedOf m p state k)))
+          (text-fine m p edition2 t2 fine no-more2 node-fine))
 
--- ---- what an accepted load gives
+      -- and gives the run that was saved: its clock and its state
+      pub load-own : (clock : Clock) → loadOf m p t2 old clock ≡ after (record { answer = accepted; clock = k }) state
+      load-own clock =
+          let two = edition-2 (savedOf m p state k) in
+          load-gives m p t2 old clock load-fine
+          (ap (λ (d : Edition). clockIn d (N m) t2) two ∙ clock-back (savedOf m p state k) c)
+          (ap (λ (d : Edition). stateIn d (N m) t2 (m .h)) two ∙ state-back (savedOf m p state k) s (m .h))
+
+    -- ---- a save and a load
+    module _ (t : List ℕ) (done : saveOf m p state k t .answer .number ≡ 0) where
+      -- the bytes that an accepted save wrote, as many as its place says, are loaded to the run that was saved
+      pub saved-loaded : (clock : Clock)
+          → loadOf m p (take (saveOf m p state k t .answer .place) (saveOf m p state k t .text)) old clock ≡ after (record { answer = accepted; clock = k }) state
+      unfolding saveAnswer
+      saved-loaded clock = rw (save-text m p state k t done) (load-own (then-first _ _ (save-answered m p state k t done)) clock)
+
+  -- ---- the text of document 01's own rules, for a run with one wind
+  module _ (state : List Float) (step : ℕ) (w : Wind) where
+    abbrev t1 : List ℕ
+    t1 = saveText1 (N m) (E m) state step w
+
+    abbrev new : List Float
+    new = withWind (N m) state w
+
+    no-more1 : length t1 ≤ startOf (layoutAt edition1 (N m)) (lineCount edition1 (N m))
+    no-more1 =
+        let v = values1 (N m) (E m) state step w in
+        rw (lines-long (layoutAt edition1 (N m)) (lineOf edition1 (N m) v) (line-long edition1 (N m) v (fit1 (N m) (E m) state step w)) (lineCount edition1 (N m))) (omega arith)
+
+    module _ (values : (j : ℕ) → j < 4 * N m → T (fits binary64 (getD state j nan))) (fx : T (fits binary64 (w .x))) (fy : T (fits binary64 (w .y))) (few : step < 256 ^ 4)
+        (ok : runRows accepted m p new .number ≡ 0) where
+      its1 : AcceptedRun accepted m p new
+      its1 = accepted-run _ _ _ _ ok
+
+      node-fine1 : (i : ℕ) → i < N m → row10In edition1 (N m) t1 (m .h) i .number ≡ 0
+      node-fine1 i b = ap (λ (a : Answer). a .number) (row-holds 10 i (rw (← node-back1 (N m) (E m) state step w values fx fy (m .h) i b) (its1 .bounds i b)))
+
+      load-fine1 : accepted ≡ loadAnswer m p t1 old
+      unfolding loadAnswer
+      load-fine1 =
+          let sized = its1 .shape .sized in
+          let fine = lines-fine1 (N m) (E m) state step w (sized .most-nodes) (omega (arith, sized .most-triangles)) p (sumD m) in
+          goes _ (rw (row-holds 1 0 (eq-eqb _ _ long)) (its1 .mesh))
+          (subst (λ (d : Edition). accepted ≡ rowsIn d (N m) t1 (E m) (sumD m) p (m .h)) (sym (edition-1 (N m) (E m) state step w))
+          (text-fine m p edition1 t1 fine no-more1 node-fine1))
+
+      -- is loaded to that run, with that wind at every node
+      pub load-old : (clock : Clock) → loadOf m p t1 old clock ≡ after (record { answer = accepted; clock = record { step = step } }) new
+      load-old clock =
+          let one = edition-1 (N m) (E m) state step w in
+          load-gives m p t1 old clock load-fine1
+          (ap (λ (d : Edition). clockIn d (N m) t1) one ∙ clock-back1 (N m) (E m) state step w few)
+          (ap (λ (d : Edition). stateIn d (N m) t1 (m .h)) one ∙ state-back1 (N m) (E m) state step w values fx fy (m .h))
+
+-- ---- what an accepted load of either edition gives
 -- the run that a load leaves is saved into a text, and that is loaded over another run and gives it back
 abbrev Again : Mesh → Parameters → List ℕ → List Float → Clock → After → Type 0
 Again m p text old other o =
@@ -81,14 +150,14 @@ Again m p text old other o =
     × (loadOf m p (take (s .answer .place) (s .text)) old other ≡ after (record { answer = accepted; clock = o .reply .clock }) (o .state))
 
 pub loaded-again : (m : Mesh) (p : Parameters) (t : List ℕ) (state : List Float) (k : Clock) (text : List ℕ) (old : List Float) (other : Clock)
-    → loadOf m p t state k .reply .answer .number ≡ 0 → saveLength (N m) ≤ length text → length old ≡ stateRuns * N m
+    → loadOf m p t state k .reply .answer .number ≡ 0 → saveLength (N m) ≤ length text → length old ≡ stateRuns * N m → StorableParameters p
     → Again m p text old other (loadOf m p t state k)
-loaded-again m p t state k text old other done enough long =
+loaded-again m p t state k text old other done enough long sp =
     let (ok, out) = load-took m p t state k (eq-eqb _ _ done) in
-    let fits = state-storable (N m) (m .h) t in
+    let d = editionOf t in
+    let fits = state-storable d (N m) t (m .h) in
     let rows = loaded-rows m p t state ok in
-    let wind = loaded-wind m p t state ok in
     subst (Again m p text old other) (sym out) (
-      save-writes m p _ _ text rows wind enough,
-      saved-loaded m p _ _ fits (clock-storable (N m) t) old long text (save-accepts m p _ _ text rows wind enough) other,
+      save-writes m p _ _ text rows enough,
+      saved-loaded m p old long _ _ fits (clock-storable d (N m) t) sp text (save-accepts m p _ _ text rows enough) other,
     )

@@ -1,59 +1,90 @@
 -- Document 02, #104: a text is loaded as the text in upper case is, on every mesh, state and clock.
-use Prim.Native.Nat.{ℕ, zero, suc, _+_}
+use Prim.Native.Nat.{ℕ, _+_}
 use mathlib.Core.Path.{_≡_, ap}
+use mathlib.Core.Bool.{Bool, cond}
 use mathlib.Core.List.{List, [], _∷_}
-use lib.ListN.{drop, length-map}
-use lib.Ieee.{Float}
+use lib.Dec.{lit<}
+use lib.ListN.{length-map, getD}
+use lib.Ieee.{Float, nan}
 use Rattle.rows.specs.Scan.{row}
 use Rattle.rows.proofs.ScanLaws.{scan-same}
 use Rattle.lists.specs.Runs.{runsOf}
 use Rattle.quantities.specs.declared.Parameters.{Parameters}
 use Rattle.quantities.specs.declared.Node.{Node}
 use Rattle.frames.specs.Spelling.{upper, inUpper}
-use Rattle.frames.proofs.SpellingLaws.{take-upper, drop-upper, value-upper}
-use Rattle.faults.proofs.SpellingLaws.{fault-upper}
+use Rattle.frames.specs.Frames.{byteOf}
+use Rattle.frames.specs.Reading.{float}
+use Rattle.frames.proofs.SpellingLaws.{value-upper, line-at-upper, starts-upper}
+use Rattle.faults.proofs.SpellingLaws.{line-fault-upper}
 use Rattle.surge.specs.declared.Clock.{Clock}
 use Rattle.mesh.specs.Lent.{Mesh, N, E}
+use Rattle.areas.specs.Areas.{sumD}
 use Rattle.limits.specs.Limits.{inBounds}
-use Rattle.saves.specs.Lines.{layoutAt, due, startOf}
-use Rattle.loads.specs.Load.{lineAt, row23, lineRows, clockOf, loadedNode, row10Read, loadAnswer, loadedState, loadOf}
+use Rattle.saves.specs.Lines.{Edition, edition1, edition2, layoutAt, nodeLine, lineCount}
+use Rattle.loads.specs.Load.{editionOf, row23, row25, lineIn, lineRows, trailingRow, clockIn, nodeIn, row10In, rowsIn, loadAnswer, stateIn, loadOf}
 
-module _ (n : ℕ) (t : List ℕ) where
-  pub line-at-upper : (j : ℕ) → lineAt n (inUpper t) j ≡ inUpper (lineAt n t j)
-  line-at-upper j = rw (drop-upper (startOf n j) t) (take-upper (due n j + 1) (drop (startOf n j) t))
+-- the edition is told by two digits that have no case
+edition-upper : (t : List ℕ) → editionOf (inUpper t) ≡ editionOf t
+edition-upper t = ap (λ (b : Bool). cond b edition1 edition2) (starts-upper 48 49 (lit< tt) (lit< tt) t)
 
-  counts-upper : (e : ℕ) (line : List ℕ) (j : ℕ) → row23 n e (inUpper line) j ≡ row23 n e line j
-  unfolding row23
-  counts-upper e line zero = rw (value-upper line 3 2, value-upper line 5 2)
-  counts-upper e line (suc i) = rw (value-upper line 3 2)
+counts-upper : (n e : ℕ) (line : List ℕ) (kind j : ℕ) → row23 n e (inUpper line) kind j ≡ row23 n e line kind j
+unfolding row23
+counts-upper n e line kind j = rw (value-upper line 3 2, value-upper line 5 2)
 
-  rows-upper : (e j : ℕ) → lineRows n e (inUpper t) j ≡ lineRows n e t j
+settings-upper : (p : Parameters) (sum : ℕ) (line : List ℕ) (kind j : ℕ) → row25 p sum (inUpper line) kind j ≡ row25 p sum line kind j
+unfolding row25
+settings-upper p sum line kind j = rw (value-upper line 3 8, value-upper line 11 8, value-upper line 19 8, value-upper line 27 8, value-upper line 35 8)
+
+module _ (d : Edition) (n : ℕ) (t : List ℕ) where
+  rows-upper : (e sum : ℕ) (p : Parameters) (j : ℕ) → lineRows d n (inUpper t) e sum p j ≡ lineRows d n t e sum p j
   unfolding lineRows
-  rows-upper e j = rw (line-at-upper j, fault-upper (lineAt n t j) (due n j) (layoutAt n j .kind) j j, counts-upper e (lineAt n t j) j)
+  rows-upper e sum p j =
+      let kind = layoutAt d n j .kind in
+      rw (
+        line-fault-upper (layoutAt d n) t j,
+        line-at-upper (layoutAt d n) t j,
+        counts-upper n e (lineIn d n t j) kind j,
+        settings-upper p sum (lineIn d n t j) kind j,
+      )
 
-  clock-upper : clockOf n (inUpper t) ≡ clockOf n t
-  unfolding clockOf
-  clock-upper = let l = lineAt n t 0 in rw (line-at-upper 0, value-upper l 7 4, value-upper l 11 8, value-upper l 19 8)
+  clock-upper : clockIn d n (inUpper t) ≡ clockIn d n t
+  unfolding clockIn
+  clock-upper = rw (line-at-upper (layoutAt d n) t 0, value-upper (lineIn d n t 0) 7 4)
 
-  node-upper : (h : List Float) (i : ℕ) → loadedNode n h (inUpper t) i ≡ loadedNode n h t i
-  unfolding loadedNode
+  float-upper : (j at : ℕ) → float (lineIn d n (inUpper t) j) at ≡ float (lineIn d n t j) at
+  float-upper j at = rw (line-at-upper (layoutAt d n) t j, value-upper (lineIn d n t j) at 8)
+
+  node-upper : (h : List Float) (i : ℕ) → nodeIn d n (inUpper t) h i ≡ nodeIn d n t h i
+  unfolding nodeIn
   node-upper h i =
-      let l = lineAt n t (suc i) in
-      rw (line-at-upper (suc i), value-upper l 3 8, value-upper l 11 8, value-upper l 19 8, value-upper l 27 8)
+      λ q. record {
+        h = getD h i nan;
+        earlier = float-upper (nodeLine d i) (byteOf (d .node .widths) 0) q;
+        z = float-upper (nodeLine d i) (byteOf (d .node .widths) 1) q;
+        u = float-upper (nodeLine d i) (byteOf (d .node .widths) 2) q;
+        v = float-upper (nodeLine d i) (byteOf (d .node .widths) 3) q;
+        wx = float-upper (d .windLine i) (d .windByte) q;
+        wy = float-upper (d .windLine i) (8 + d .windByte) q;
+      }
 
-  state-upper : (h : List Float) → loadedState n h (inUpper t) ≡ loadedState n h t
-  unfolding loadedState
-  state-upper h = ap (λ (c : ℕ → Node). runsOf n ((λ i. c i .earlier) ∷ (λ i. c i .z) ∷ (λ i. c i .u) ∷ (λ i. c i .v) ∷ [])) (λ q i. node-upper h i q)
+  state-upper : (h : List Float) → stateIn d n (inUpper t) h ≡ stateIn d n t h
+  unfolding stateIn
+  state-upper h =
+      ap (λ (c : ℕ → Node). runsOf n ((λ i. c i .earlier) ∷ (λ i. c i .z) ∷ (λ i. c i .u) ∷ (λ i. c i .v) ∷ (λ i. c i .wx) ∷ (λ i. c i .wy) ∷ []))
+      (λ q i. node-upper h i q)
+
+  text-upper : (e sum : ℕ) (p : Parameters) (h : List Float) → rowsIn d n (inUpper t) e sum p h ≡ rowsIn d n t e sum p h
+  unfolding rowsIn trailingRow
+  text-upper e sum p h =
+      let lines = scan-same (lineRows d n (inUpper t) e sum p) (lineRows d n t e sum p) (lineCount d n) (λ j _. rows-upper e sum p j) in
+      let bounds = scan-same (row10In d n (inUpper t) h) (row10In d n t h) n (λ i _. ap (λ (c : Node). row (inBounds c) 10 i) (node-upper h i)) in
+      rw (lines, length-map t upper, bounds)
 
 module _ (m : Mesh) (p : Parameters) (t : List ℕ) (state : List Float) where
   answer-upper : loadAnswer m p (inUpper t) state ≡ loadAnswer m p t state
   unfolding loadAnswer
-  answer-upper =
-      let n = N m in
-      let lines = scan-same (lineRows n (E m) (inUpper t)) (lineRows n (E m) t) (n + 2) (λ j _. rows-upper n t (E m) j) in
-      let bounds = scan-same (row10Read n (m .h) (inUpper t)) (row10Read n (m .h) t) n (λ i _. ap (λ (c : Node). row (inBounds c) 10 i) (node-upper n t (m .h) i)) in
-      rw (lines, length-map t upper, clock-upper n t, bounds)
+  answer-upper = rw (edition-upper t, text-upper (editionOf t) (N m) t (E m) (sumD m) p (m .h))
 
   pub load-upper : (k : Clock) → loadOf m p (inUpper t) state k ≡ loadOf m p t state k
   unfolding loadOf
-  load-upper k = rw (answer-upper, clock-upper (N m) t, state-upper (N m) t (m .h))
+  load-upper k = rw (answer-upper, edition-upper t, clock-upper (editionOf t) (N m) t, state-upper (editionOf t) (N m) t (m .h))

@@ -1,5 +1,5 @@
 -- What is loaded of any text can be saved again, and so can a cold start and what a step gives.
-use Prim.Native.Nat.{ℕ, zero, suc, _+_, _*_}
+use Prim.Native.Nat.{ℕ, zero, suc, _+_, _*_, _<_}
 use mathlib.Core.Path.{_≡_, refl}
 use mathlib.Core.Bool.{Bool, true, false, cond}
 use mathlib.Core.List.{List, [], _∷_, _++_}
@@ -15,7 +15,6 @@ use Rattle.lists.specs.Runs.{runsOf}
 use Rattle.rows.specs.Numbers.{plus0}
 use Rattle.lists.proofs.TableLaws.{length-table}
 use Rattle.quantities.specs.declared.Parameters.{Parameters}
-use Rattle.quantities.specs.declared.Forcing.{Forcing}
 use Rattle.quantities.specs.declared.Push.{Push}
 use Rattle.quantities.specs.declared.Flow.{Flow}
 use Rattle.elevation.specs.Elevation.{z′, riseOf}
@@ -24,15 +23,17 @@ use Rattle.velocity.specs.Velocity.{flow, U′ as u′, V′ as v′, flowOf}
 use Rattle.frames.proofs.BackLaws.{value-small}
 use Rattle.mesh.specs.Lent.{Mesh, N}
 use Rattle.bounds.specs.State.{stateRuns}
+use Rattle.bounds.specs.Forcing.{windsOf}
 use Rattle.surge.specs.Lent.{Run, coldState, coldClock}
 use Rattle.passes.specs.Equations.{rise, flowAt, nextState}
 use Rattle.surge.specs.Step.{givenOf, advance}
 use Rattle.lists.proofs.RunLaws.{runs-length}
 use Rattle.loads.specs.Storable.{StorableClock, StorableState}
-use Rattle.loads.specs.Load.{lineAt, clockOf, loadedNode, loadedState}
+use Rattle.loads.specs.Load.{lineIn, clockIn, nodeIn, stateIn}
+use Rattle.saves.specs.Lines.{Edition}
 
 -- each value of a list is a binary64; past its end it is NaN
-abbrev AllFit : List Float → Type 0
+abbrev pub AllFit : List Float → Type 0
 AllFit l = (j : ℕ) → T (fits binary64 (getD l j nan))
 
 join-fit : (a b : List Float) → AllFit a → AllFit b → AllFit (a ++ b)
@@ -60,36 +61,39 @@ unfolding runsOf
 runs-fit n [] h j = nan-fits binary64
 runs-fit n (f ∷ fs) h j = join-fit (table n f) (runsOf n fs) (table-fit n f (h .0)) (runs-fit n fs (h .1)) j
 
-four-storable : (n : ℕ) (a b c d : ℕ → Float) → EachFits a → EachFits b → EachFits c → EachFits d → StorableState n (runsOf n (a ∷ b ∷ c ∷ d ∷ []))
-four-storable n a b c d fa fb fc fd = record { long = runs-length n _; values = λ j _. runs-fit n (a ∷ b ∷ c ∷ d ∷ []) (fa, (fb, (fc, (fd, tt)))) j }
+six-storable : (n : ℕ) (a b c d e f : ℕ → Float) → AllOf (a ∷ b ∷ c ∷ d ∷ e ∷ f ∷ []) → StorableState n (runsOf n (a ∷ b ∷ c ∷ d ∷ e ∷ f ∷ []))
+six-storable n a b c d e f h = record { long = runs-length n _; values = λ j _. runs-fit n (a ∷ b ∷ c ∷ d ∷ e ∷ f ∷ []) h j }
 
 -- the clock that is read of a text
-pub clock-storable : (n : ℕ) (t : List ℕ) → StorableClock (clockOf n t)
-unfolding clockOf
-clock-storable n t = record { step = value-small (lineAt n t 0) 7 4; wx = ofBits-fits binary64 _; wy = ofBits-fits binary64 _ }
+pub clock-storable : (d : Edition) (n : ℕ) (t : List ℕ) → StorableClock (clockIn d n t)
+unfolding clockIn
+clock-storable d n t = record { step = value-small (lineIn d n t 0) 7 4 }
 
 -- the state that is read of a text
-pub state-storable : (n : ℕ) (h : List Float) (t : List ℕ) → StorableState n (loadedState n h t)
-unfolding loadedState loadedNode
-state-storable n h t =
-    four-storable n _ _ _ _ (λ i. ofBits-fits binary64 _) (λ i. ofBits-fits binary64 _) (λ i. ofBits-fits binary64 _) (λ i. ofBits-fits binary64 _)
+pub state-storable : (d : Edition) (n : ℕ) (t : List ℕ) (h : List Float) → StorableState n (stateIn d n t h)
+unfolding stateIn nodeIn
+state-storable d n t h =
+    six-storable n _ _ _ _ _ _
+    ((λ i. ofBits-fits binary64 _), ((λ i. ofBits-fits binary64 _), ((λ i. ofBits-fits binary64 _), ((λ i. ofBits-fits binary64 _), ((λ i. ofBits-fits binary64 _), ((λ i. ofBits-fits binary64 _), tt))))))
 
 -- a cold start
 pub cold-clock-storable : StorableClock coldClock
-unfolding fits
-cold-clock-storable = record { step = lit< tt; wx = tt; wy = tt }
+cold-clock-storable = record { step = lit< tt }
 
 pub cold-state-storable : (n : ℕ) → StorableState n (coldState n)
 unfolding fits
 cold-state-storable n = record { long = length-table (stateRuns * n) _; values = λ j _. table-fit (stateRuns * n) _ (λ i. tt) j }
 
--- ---- what the equations give of a run that can be saved, from a forcing of three binary64: a value of the run, of the forcing, or the result of an operation
-all-fit : (n : ℕ) (l : List Float) → StorableState n l → AllFit l
-all-fit n l s j = go (ltb j (length l)) refl
+-- ---- what the equations give of a run that can be saved, from a forcing of binary64: a value of the run, of the forcing, or the result of an operation
+pub past-fit : (l : List Float) → ((j : ℕ) → j < length l → T (fits binary64 (getD l j nan))) → AllFit l
+past-fit l h j = go (ltb j (length l)) refl
   where
     go : (b : Bool) → ltb j (length l) ≡ b → T (fits binary64 (getD l j nan))
-    go true q = s .values j (ltb-true j _ q)
+    go true q = h j (ltb-true j _ q)
     go false q = rw (List·getD-eq-default l nan (ltb-false j _ q)) (nan-fits binary64)
+
+all-fit : (n : ℕ) (l : List Float) → StorableState n l → AllFit l
+all-fit n l s = past-fit l (s .values)
 
 flow-fit : (less : Taking) (p : Parameters) (kind : ℕ) (x : Push) → T (fits binary64 (flowOf less p kind x .u)) × T (fits binary64 (flowOf less p kind x .v))
 unfolding flowOf flow u′ v′ fits
@@ -99,16 +103,23 @@ flow-fit less p kind x = go (eqb kind 2)
     go true = (tt, tt)
     go false = (div-fits binary64 _ _, div-fits binary64 _ _)
 
-module _ (m : Mesh) (p : Parameters) (r : Run) (f : Forcing) (fe : T (fits binary64 (f .elevation))) where
+-- the winds of a forcing
+winds-fit : (f : List Float) → AllFit f → AllFit (windsOf f)
+winds-fit [] h j = nan-fits binary64
+winds-fit (e ∷ f) h j = h (suc j)
+
+module _ (m : Mesh) (p : Parameters) (r : Run) (f : List Float) (ff : AllFit f) where
   rise-fit : (i : ℕ) → T (fits binary64 (rise (givenOf m p r f) i))
   unfolding rise riseOf z′
-  rise-fit i = cond-fits binary64 (eqb (getD (m .kind) i 0) 1) _ _ fe (add-fits binary64 _ _)
+  rise-fit i = cond-fits binary64 (eqb (getD (m .kind) i 0) 1) _ _ (ff 0) (add-fits binary64 _ _)
 
   pub next-state-storable : StorableState (N m) (r .state) → StorableState (N m) (advance m p r f .state)
   unfolding advance nextState flowAt
-  next-state-storable s = four-storable (N m) _ _ _ _ (λ i. all-fit _ _ s (1 * N m + i)) rise-fit (λ i. flow-fit _ _ _ _ .0) (λ i. flow-fit _ _ _ _ .1)
+  next-state-storable s =
+      let winds = winds-fit f ff in
+      six-storable (N m) _ _ _ _ _ _
+      ((λ i. all-fit _ _ s (1 * N m + i)), (rise-fit, ((λ i. flow-fit _ _ _ _ .0), ((λ i. flow-fit _ _ _ _ .1), ((λ i. winds (0 * N m + i)), ((λ i. winds (1 * N m + i)), tt))))))
 
-  pub next-clock-storable : T (fits binary64 (f .wx)) → T (fits binary64 (f .wy)) → (r .clock .step ≡ 4294967295 → ⊥) → StorableClock (r .clock)
-      → StorableClock (advance m p r f .clock)
+  pub next-clock-storable : (r .clock .step ≡ 4294967295 → ⊥) → StorableClock (r .clock) → StorableClock (advance m p r f .clock)
   unfolding advance
-  next-clock-storable fx fy l c = record { step = omega (arith, c .step, l); wx = fx; wy = fy }
+  next-clock-storable l c = record { step = omega (arith, c .step, l) }

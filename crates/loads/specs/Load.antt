@@ -1,76 +1,117 @@
 -- Document 01: a load. "A load goes through the lines, from 0, in each 20, 21, 22, 23, the length being that of the kind due there for the run's N,
--- and a missing line being of wrong length; then trailing bytes (20, line N+2); then 12 for the head's wind (place 0), then 10 over the loaded values."
-use Prim.Native.Nat.{ℕ, zero, suc, _+_}
-use mathlib.Core.Bool.{cond, _&&_, _||_}
+-- and a missing line being of wrong length; then trailing bytes …; then 10 over the loaded values." Document 02, #105: "We read both editions".
+use Prim.Native.Nat.{ℕ, _+_}
+use mathlib.Core.Bool.{Bool, true, cond, not, _&&_, _||_}
 use mathlib.Core.List.{List, [], _∷_}
-use lib.Dec.{eqb, leb, ltb}
-use lib.ListN.{length, getD, take, drop}
+use lib.Dec.{eqb, leb}
+use lib.ListN.{length, getD}
 use lib.Ieee.{Float, nan}
 use Rattle.rows.specs.declared.Answer.{Answer}
 use Rattle.lists.specs.Runs.{runsOf}
 use Rattle.rows.specs.Scan.{row, _then_, scan}
 use Rattle.quantities.specs.declared.Parameters.{Parameters}
 use Rattle.quantities.specs.declared.Node.{Node}
-use Rattle.frames.specs.Frames.{byteOf}
+use Rattle.frames.specs.Frames.{bits, byteOf}
 use Rattle.frames.specs.Reading.{value, float}
-use Rattle.faults.specs.Faults.{fault}
+use Rattle.frames.specs.Texts.{startOf, lineAt, starts}
+use Rattle.faults.specs.Faults.{lineFault}
 use Rattle.surge.specs.declared.Clock.{Clock}
 use Rattle.mesh.specs.Lent.{Mesh, N, E}
-use Rattle.surge.specs.Lent.{After, after, windOf}
+use Rattle.areas.specs.Areas.{sumD}
+use Rattle.surge.specs.Lent.{After, after}
 use Rattle.nodes.specs.Rows.{meshRows}
 use Rattle.bounds.specs.State.{row1State}
-use Rattle.limits.specs.Limits.{inBounds, row12Held}
-use Rattle.saves.specs.Lines.{headLayout, nodeLayout, endLayout, layoutAt, due, startOf, saveLength}
+use Rattle.limits.specs.Limits.{inBounds}
+use Rattle.saves.specs.Lines.{head2, run2, endLayout, Edition, edition1, edition2, layoutAt, nodeLine, lineCount}
 
--- line j of a text, as much of it as there is: "a missing line being of wrong length"
-abbrev pub lineAt : ℕ → List ℕ → ℕ → List ℕ
-lineAt n t j = take (due n j + 1) (drop (startOf n j) t)
+-- "A head starting 01 … is measured by that kind, any other by the new": the characters 0 and 1
+abbrev pub editionOf : List ℕ → Edition
+editionOf t = cond (starts 48 49 t) edition1 edition2
 
--- | 23 | N or E differs | line |: at the head for N or E, at the end line for N
-unfoldable pub row23 : ℕ → ℕ → List ℕ → ℕ → Answer
-row23 n e line zero = row (eqb (value line (byteOf (headLayout .widths) 0) 2) n && eqb (value line (byteOf (headLayout .widths) 1) 2) e) 23 0
-row23 n e line (suc i) = row (ltb i n || eqb (value line (byteOf (endLayout .widths) 0) 2) n) 23 (suc i)
+-- ---- rows 23 and 25 of a line, by the kind that is due there
+-- | 23 | N or E differs | line |: at a head for N or E, at the end line for N
+abbrev pub isHead : ℕ → Bool
+isHead kind = eqb kind 1 || eqb kind 4
 
--- "in each 20, 21, 22, 23"
-unfoldable pub lineRows : ℕ → ℕ → List ℕ → ℕ → Answer
-lineRows n e t j = fault (lineAt n t j) (due n j) (layoutAt n j .kind) j j then row23 n e (lineAt n t j) j
+module _ (n e : ℕ) (line : List ℕ) where
+  -- N and E stand at the same bytes of both heads
+  abbrev pub countsRight : Bool
+  countsRight = eqb (value line (byteOf (head2 .widths) 0) 2) n && eqb (value line (byteOf (head2 .widths) 1) 2) e
 
--- the head's clock, and the values of node i
-unfoldable pub clockOf : ℕ → List ℕ → Clock
-clockOf n t =
-    let l = lineAt n t 0 in
-    let at = byteOf (headLayout .widths) in
-    record { step = value l (at 2) 4; wx = float l (at 3); wy = float l (at 4) }
+  unfoldable pub row23 : ℕ → ℕ → Answer
+  row23 kind j = row (cond (isHead kind) countsRight (cond (eqb kind 3) (eqb (value line (byteOf (endLayout .widths) 0) 2) n) true)) 23 j
 
-unfoldable pub loadedNode : ℕ → List Float → List ℕ → ℕ → Node
-loadedNode n h t i =
-    let l = lineAt n t (suc i) in
-    let at = byteOf (nodeLayout .widths) in
-    record { h = getD h i nan; earlier = float l (at 0); z = float l (at 1); u = float l (at 2); v = float l (at 3) }
+-- "25 when a field of line 05 differs in any bit from the run's, after 23, line as place"
+module _ (p : Parameters) (sum : ℕ) (line : List ℕ) where
+  abbrev pub runRight : Bool
+  runRight =
+      let at = byteOf (run2 .widths) in
+      eqb (value line (at 0) 8) (bits (p .dt))
+      && eqb (value line (at 1) 8) (bits (p .tau))
+      && eqb (value line (at 2) 8) (bits (p .k))
+      && eqb (value line (at 3) 8) (bits (p .f))
+      && eqb (value line (at 4) 8) sum
 
--- "then 10 over the loaded values": row 10 of node i
-abbrev pub row10Read : ℕ → List Float → List ℕ → ℕ → Answer
-row10Read n h t i = row (inBounds (loadedNode n h t i)) 10 i
+  unfoldable pub row25 : ℕ → ℕ → Answer
+  row25 kind j = row (not (eqb kind 5) || runRight) 25 j
 
--- the rows of a text: its lines, "then trailing bytes (20, line N+2); then 12 for the head's wind (place 0), then 10"
-abbrev pub textRows : ℕ → ℕ → List Float → List ℕ → Answer
-textRows n e h t =
-    scan (lineRows n e t) (n + 2)
-    then row (leb (length t) (saveLength n)) 20 (n + 2)
-    then row12Held (windOf (clockOf n t))
-    then scan (row10Read n h t) n
+-- ---- a text of this edition, against a mesh of n nodes and e triangles, the sum of its D, and parameters
+module _ (d : Edition) (n : ℕ) (t : List ℕ) where
+  -- line j
+  abbrev pub lineIn : ℕ → List ℕ
+  lineIn = lineAt (layoutAt d n) t
 
+  -- "in each 20, 21, 22, 23", and 25
+  unfoldable pub lineRows : ℕ → ℕ → Parameters → ℕ → Answer
+  lineRows e sum p j =
+      let kind = layoutAt d n j .kind in
+      lineFault (layoutAt d n) t j then row23 n e (lineIn j) kind j then row25 p sum (lineIn j) kind j
+
+  -- the head's step number: at the same bytes of both heads
+  unfoldable pub clockIn : Clock
+  clockIn = record { step = value (lineIn 0) (byteOf (head2 .widths) 2) 4 }
+
+  -- the values of node i; "an edition 1 load gives every node the head's wind"
+  unfoldable pub nodeIn : List Float → ℕ → Node
+  nodeIn h i =
+      let l = lineIn (nodeLine d i) in
+      let w = lineIn (d .windLine i) in
+      let at = byteOf (d .node .widths) in
+      record {
+        h = getD h i nan;
+        earlier = float l (at 0);
+        z = float l (at 1);
+        u = float l (at 2);
+        v = float l (at 3);
+        wx = float w (d .windByte);
+        wy = float w (8 + d .windByte);
+      }
+
+  -- "then 10 over the loaded values": row 10 of node i
+  abbrev pub row10In : List Float → ℕ → Answer
+  row10In h i = row (inBounds (nodeIn h i)) 10 i
+
+  -- bytes after the last line: "Bytes after edition 2's end are at line N+3", of edition 1's at line N+2
+  unfoldable pub trailingRow : Answer
+  trailingRow = row (leb (length t) (startOf (layoutAt d n) (lineCount d n))) 20 (lineCount d n)
+
+  -- the rows of a text: its lines, then trailing bytes, then 10
+  unfoldable pub rowsIn : ℕ → ℕ → Parameters → List Float → Answer
+  rowsIn e sum p h = scan (lineRows e sum p) (lineCount d n) then trailingRow then scan (row10In h) n
+
+  -- the loaded state: "6N numbers, with Wx and Wy of each node last"
+  unfoldable pub stateIn : List Float → List Float
+  stateIn h =
+      let c = nodeIn h in
+      runsOf n ((λ i. c i .earlier) ∷ (λ i. c i .z) ∷ (λ i. c i .u) ∷ (λ i. c i .v) ∷ (λ i. c i .wx) ∷ (λ i. c i .wy) ∷ [])
+
+-- ---- the call
 unfoldable pub loadAnswer : Mesh → Parameters → List ℕ → List Float → Answer
-loadAnswer m p t state = meshRows (row1State m state) m p then textRows (N m) (E m) (m .h) t
-
--- the loaded state: "four runs of N: earlier elevation, present elevation z, U, V"
-unfoldable pub loadedState : ℕ → List Float → List ℕ → List Float
-loadedState n h t =
-    let c = loadedNode n h t in
-    runsOf n ((λ i. c i .earlier) ∷ (λ i. c i .z) ∷ (λ i. c i .u) ∷ (λ i. c i .v) ∷ [])
+loadAnswer m p t state = meshRows (row1State m state) m p then rowsIn (editionOf t) (N m) t (E m) (sumD m) p (m .h)
 
 -- a refusal leaves state and clock as found
 unfoldable pub loadOf : Mesh → Parameters → List ℕ → List Float → Clock → After
 loadOf m p t state k =
     let a = loadAnswer m p t state in
-    cond (eqb (a .number) 0) (after (record { answer = a; clock = clockOf (N m) t }) (loadedState (N m) (m .h) t)) (after (record { answer = a; clock = k }) state)
+    let d = editionOf t in
+    cond (eqb (a .number) 0) (after (record { answer = a; clock = clockIn d (N m) t }) (stateIn d (N m) t (m .h))) (after (record { answer = a; clock = k }) state)

@@ -11,7 +11,7 @@ ghost use Rattle.mesh.specs.Lent.{mesh};
 ghost use Rattle.surge.specs.Lent.{after};
 ghost use Rattle.loads.specs.Load.{loadOf};
 
-// Loads a run: the mesh's rows, the text's rows; then state and clock. A refusal leaves both as found.
+// Loads a run from a save of either edition: the mesh's rows, the text's rows; then state and clock. A refusal leaves both as found.
 pub fn load(
     state: &mut [f64],
     text: &[u8],
@@ -34,13 +34,15 @@ pub fn load(
             clock,
         };
     }
-    let answer = loading::text_rows(n, tri.len() / 3, h, text);
+    let d = loading::edition_of(text);
+    let sum = areas::twice_areas(x, y, tri);
+    let answer = loading::text_rows(d, n, tri.len() / 3, sum, p, h, text);
     if answer.number != 0 {
         return Reply { answer, clock };
     }
-    loading::fill(state, n, h, text);
+    loading::fill(state, d, n, h, text);
     Reply {
         answer,
-        clock: loading::clock_of(n, text),
+        clock: loading::clock_of(d, n, text),
     }
 }

@@ -1,15 +1,36 @@
-// The lines of a save, read back: the rows of a load, the clock and the state that the lines hold.
+// The lines of a save of either edition, read back: the rows of a load, the clock and the state that the lines hold.
 use frames::reading;
 use quantities::Node;
+use quantities::Parameters;
+use quantities::Wind;
 use rows::Answer;
 use surge::Clock;
 ghost use mathlib.Core.Path.{_≡_};
 ghost use Prim.Native.Nat.{_+_, _*_, _<_, _≤_};
-ghost use lib.ListN.{length, take, drop, set};
+ghost use lib.ListN.{length};
 ghost use Rattle.rows.specs.Scan.{scan};
 ghost use Rattle.bounds.specs.State.{stateRuns};
-ghost use Rattle.saves.specs.Lines.{layoutAt, due};
-ghost use Rattle.loads.specs.Load.{lineAt, row23, lineRows, clockOf, loadedNode, row10Read, textRows, loadedState};
+ghost use Rattle.frames.specs.Texts.{due, startOf};
+ghost use Rattle.saves.specs.Lines.{edition1, edition2, layoutAt, nodeLine, lineCount};
+ghost use Rattle.loads.specs.Load.{editionOf, row23, runRight, row25, lineIn, lineRows, trailingRow, clockIn, nodeIn, row10In, rowsIn, stateIn};
+ghost use Rattle.loads.specs.Private.{linesOf, headWind, windIn, stored};
+
+// The editions of a save.
+pub(crate) enum Edition {
+    One,
+    Two,
+}
+
+// A text that starts with 01 is of edition 1, any other of edition 2.
+pub(crate) fn edition_of(text: &[u8]) -> Edition
+    ensures { λ r. ⌜ linesOf r ≡ editionOf (now (text .entry)) ⌝ }
+{
+    if reading::starts(text, b'0', b'1') {
+        Edition::One
+    } else {
+        Edition::Two
+    }
+}
 
 // A kind of line: its digits and its kind byte.
 struct LineKind {
@@ -17,9 +38,9 @@ struct LineKind {
     kind: u8,
 }
 
-// What is due at line j: head, nodes, end.
-fn due(n: usize, j: usize) -> LineKind
-    ensures { λ r. ⌜ (r .digits ≡ due n j) × (r .kind ≡ layoutAt n j .kind) × (r .digits ≤ 72) ⌝ }
+// What is due at line j of edition 1: head, nodes, end.
+fn due_in_one(n: usize, j: usize) -> LineKind
+    ensures { λ r. ⌜ (r .digits ≡ due (layoutAt edition1 n) j) × (r .kind ≡ layoutAt edition1 n j .kind) × (r .digits ≤ 104) ⌝ }
 {
     if j == 0 {
         return LineKind {
@@ -40,67 +61,165 @@ fn due(n: usize, j: usize) -> LineKind
     }
 }
 
-// `count` bytes of a text from `from` on, as many as there are.
-fn part(text: &[u8], from: usize, count: usize) -> &[u8]
-    ensures { λ r. ⌜ now r ≡ take count (drop from (now (text .entry))) ⌝ }
-{
-    if text.len() < from {
-        return &text[0..0];
-    }
-    if text.len() - from < count {
-        return &text[from..];
-    }
-    let to = from + count;
-    &text[from..to]
-}
-
-// Line j, past a head of 57 bytes and nodes of 73. One that the text breaks off is as much of it as there is, which is of wrong length.
-fn line_at(n: usize, text: &[u8], j: usize) -> &[u8]
-    requires { ⌜ (n ≤ 4096) × (j ≤ n + 1) ⌝ }
-    ensures { λ r. ⌜ now r ≡ lineAt n (now (text .entry)) j ⌝ }
+// And of edition 2: head, line 05, nodes, end.
+fn due_in_two(n: usize, j: usize) -> LineKind
+    ensures { λ r. ⌜ (r .digits ≡ due (layoutAt edition2 n) j) × (r .kind ≡ layoutAt edition2 n j .kind) × (r .digits ≤ 104) ⌝ }
 {
     if j == 0 {
-        return part(text, 0, 57);
+        return LineKind {
+            digits: 24,
+            kind: 4,
+        };
     }
-    let from = 57 + 73 * (j - 1);
-    let count = due(n, j).digits + 1;
-    part(text, from, count)
+    if j == 1 {
+        return LineKind {
+            digits: 88,
+            kind: 5,
+        };
+    }
+    if j - 2 < n {
+        LineKind {
+            digits: 104,
+            kind: 6,
+        }
+    } else {
+        LineKind {
+            digits: 12,
+            kind: 3,
+        }
+    }
 }
 
-// Row 23 of line j: N and E at the head, nothing at a node's line, N at the end line.
-fn counts(n: usize, e: usize, line: &[u8], j: usize) -> Answer
-    ensures { λ r. ⌜ r ≡ row23 n e (now (line .entry)) j ⌝ }
+fn due(d: Edition, n: usize, j: usize) -> LineKind
+    ensures { λ r. ⌜ (r .digits ≡ due (layoutAt (linesOf d) n) j) × (r .kind ≡ layoutAt (linesOf d) n j .kind) × (r .digits ≤ 104) ⌝ }
+{
+    match d {
+        Edition::One => due_in_one(n, j),
+        Edition::Two => due_in_two(n, j),
+    }
+}
+
+// Where line j of edition 1 starts: past a head of 57 bytes and nodes of 73.
+fn start_in_one(n: usize, j: usize) -> usize
+    requires { ⌜ (n ≤ 4096) × (j < lineCount edition1 n) ⌝ }
+    ensures { λ r. ⌜ r ≡ startOf (layoutAt edition1 n) j ⌝ }
 {
     if j == 0 {
+        return 0;
+    }
+    57 + 73 * (j - 1)
+}
+
+// And of edition 2: past a head of 25 bytes, a line 05 of 89 and nodes of 105.
+fn start_in_two(n: usize, j: usize) -> usize
+    requires { ⌜ (n ≤ 4096) × (j < lineCount edition2 n) ⌝ }
+    ensures { λ r. ⌜ r ≡ startOf (layoutAt edition2 n) j ⌝ }
+{
+    if j == 0 {
+        return 0;
+    }
+    if j == 1 {
+        return 25;
+    }
+    114 + 105 * (j - 2)
+}
+
+fn start(d: Edition, n: usize, j: usize) -> usize
+    requires { ⌜ (n ≤ 4096) × (j < lineCount (linesOf d) n) ⌝ }
+    ensures { λ r. ⌜ r ≡ startOf (layoutAt (linesOf d) n) j ⌝ }
+{
+    match d {
+        Edition::One => start_in_one(n, j),
+        Edition::Two => start_in_two(n, j),
+    }
+}
+
+// Line j. One that the text breaks off is as much of it as there is, which is of wrong length.
+fn line_at(d: Edition, n: usize, text: &[u8], j: usize) -> &[u8]
+    requires { ⌜ (n ≤ 4096) × (j < lineCount (linesOf d) n) ⌝ }
+    ensures { λ r. ⌜ now r ≡ lineIn (linesOf d) n (now (text .entry)) j ⌝ }
+{
+    let count = due(d, n, j).digits + 1;
+    reading::part(text, start(d, n, j), count)
+}
+
+// Row 23 of a line of this kind: N and E at a head, N at the end line, nothing at another.
+fn counts(n: usize, e: usize, line: &[u8], kind: u8, j: usize) -> Answer
+    ensures { λ r. ⌜ r ≡ row23 n e (now (line .entry)) kind j ⌝ }
+{
+    if (kind == 1) | (kind == 4) {
         let nodes = reading::value(line, 3, 2) == n as u64;
         let triangles = reading::value(line, 5, 2) == e as u64;
-        return rows::tested(nodes & triangles, 23, 0);
+        return rows::tested(nodes & triangles, 23, j);
     }
-    if j <= n {
-        return rows::accept();
+    if kind == 3 {
+        return rows::tested(reading::value(line, 3, 2) == n as u64, 23, j);
     }
-    rows::tested(reading::value(line, 3, 2) == n as u64, 23, j)
+    rows::accept()
 }
 
-// Rows 20 to 23 of line j.
-fn line_row(n: usize, e: usize, text: &[u8], j: usize) -> Answer
-    requires { ⌜ (n ≤ 4096) × (j ≤ n + 1) ⌝ }
-    ensures { λ r. ⌜ r ≡ lineRows n e (now (text .entry)) j ⌝ }
+// The fields of a line 05 are the run's, bit by bit.
+fn run_right(p: Parameters, sum: u64, line: &[u8]) -> bool
+    ensures { λ r. ⌜ r ≡ runRight p sum (now (line .entry)) ⌝ }
 {
-    let line = line_at(n, text, j);
-    let its = due(n, j);
+    let dt = reading::value(line, 3, 8) == patterns::pattern_of(p.dt);
+    let tau = reading::value(line, 11, 8) == patterns::pattern_of(p.tau);
+    let k = reading::value(line, 19, 8) == patterns::pattern_of(p.k);
+    let f = reading::value(line, 27, 8) == patterns::pattern_of(p.f);
+    let same = reading::value(line, 35, 8) == sum;
+    dt & tau & k & f & same
+}
+
+// Row 25 of a line of this kind.
+fn settings(p: Parameters, sum: u64, line: &[u8], kind: u8, j: usize) -> Answer
+    ensures { λ r. ⌜ r ≡ row25 p sum (now (line .entry)) kind j ⌝ }
+{
+    if kind == 5 {
+        return rows::tested(run_right(p, sum, line), 25, j);
+    }
+    rows::accept()
+}
+
+// Rows 20 to 23 and 25 of line j.
+fn line_row(
+    d: Edition,
+    n: usize,
+    e: usize,
+    sum: u64,
+    p: Parameters,
+    text: &[u8],
+    j: usize,
+) -> Answer
+    requires { ⌜ (n ≤ 4096) × (j < lineCount (linesOf d) n) ⌝ }
+    ensures { λ r. ⌜ r ≡ lineRows (linesOf d) n (now (text .entry)) e sum p j ⌝ }
+{
+    let line = line_at(d, n, text, j);
+    let its = due(d, n, j);
     let fault = faults::fault(line, its.digits, its.kind, j as u64, j);
-    rows::first(fault, counts(n, e, line, j))
+    let counts = counts(n, e, line, its.kind, j);
+    let settings = settings(p, sum, line, its.kind, j);
+    rows::first(fault, rows::first(counts, settings))
 }
 
-// Rows 20 to 23: the first line that is not as it is due.
-fn lines(n: usize, e: usize, text: &[u8]) -> Answer
+// How many lines there are.
+fn line_count(d: Edition, n: usize) -> usize
     requires { ⌜ n ≤ 4096 ⌝ }
-    ensures { λ r. ⌜ r ≡ scan (lineRows n e (now (text .entry))) (n + 2) ⌝ }
+    ensures { λ r. ⌜ r ≡ lineCount (linesOf d) n ⌝ }
 {
-    let count = n + 2;
+    match d {
+        Edition::One => n + 2,
+        Edition::Two => n + 3,
+    }
+}
+
+// Rows 20 to 23 and 25: the first line that is not as it is due.
+fn lines(d: Edition, n: usize, e: usize, sum: u64, p: Parameters, text: &[u8]) -> Answer
+    requires { ⌜ n ≤ 4096 ⌝ }
+    ensures { λ r. ⌜ r ≡ scan (lineRows (linesOf d) n (now (text .entry)) e sum p) (lineCount (linesOf d) n) ⌝ }
+{
+    let count = line_count(d, n);
     for j in 0..count {
-        let answer = line_row(n, e, text, j);
+        let answer = line_row(d, n, e, sum, p, text, j);
         if answer.number != 0 {
             return answer;
         }
@@ -108,41 +227,99 @@ fn lines(n: usize, e: usize, text: &[u8]) -> Answer
     rows::accept()
 }
 
-// The clock that the head holds.
-pub(crate) fn clock_of(n: usize, text: &[u8]) -> Clock
+// How long all lines are together.
+fn whole(d: Edition, n: usize) -> usize
     requires { ⌜ n ≤ 4096 ⌝ }
-    ensures { λ r. ⌜ r ≡ clockOf n (now (text .entry)) ⌝ }
+    ensures { λ r. ⌜ r ≡ startOf (layoutAt (linesOf d) n) (lineCount (linesOf d) n) ⌝ }
 {
-    let head = line_at(n, text, 0);
-    Clock {
-        step: reading::value(head, 7, 4) as u32,
-        wx: reading::float_at(head, 11),
-        wy: reading::float_at(head, 19),
+    match d {
+        Edition::One => 70 + 73 * n,
+        Edition::Two => 127 + 105 * n,
     }
 }
 
-// Node i, as its line holds it.
-fn node_at(n: usize, h: &[f64], text: &[u8], i: usize) -> Node
-    requires { ⌜ (i < n) × (length (now h) ≡ n) × (n ≤ 4096) ⌝ }
-    ensures { λ r. ⌜ r ≡ loadedNode n (now (h .entry)) (now (text .entry)) i ⌝ }
+// Bytes after the last line.
+fn trailing(d: Edition, n: usize, text: &[u8]) -> Answer
+    requires { ⌜ n ≤ 4096 ⌝ }
+    ensures { λ r. ⌜ r ≡ trailingRow (linesOf d) n (now (text .entry)) ⌝ }
 {
-    let values = reading::values(line_at(n, text, i + 1));
+    let fits = text.len() <= whole(d, n);
+    rows::tested(fits, 20, line_count(d, n))
+}
+
+// The step number that the head holds: at the same place in both editions.
+pub(crate) fn clock_of(d: Edition, n: usize, text: &[u8]) -> Clock
+    requires { ⌜ n ≤ 4096 ⌝ }
+    ensures { λ r. ⌜ r ≡ clockIn (linesOf d) n (now (text .entry)) ⌝ }
+{
+    let head = line_at(d, n, text, 0);
+    Clock {
+        step: reading::value(head, 7, 4) as u32,
+    }
+}
+
+// The wind that an edition 1 head holds.
+fn head_wind(d: Edition, n: usize, text: &[u8]) -> Wind
+    requires { ⌜ n ≤ 4096 ⌝ }
+    ensures { λ r. ⌜ r ≡ headWind (linesOf d) n (now (text .entry)) ⌝ }
+{
+    let head = line_at(d, n, text, 0);
+    Wind {
+        x: reading::float_at(head, 11),
+        y: reading::float_at(head, 19),
+    }
+}
+
+// The line of node i.
+fn node_text(d: Edition, n: usize, text: &[u8], i: usize) -> &[u8]
+    requires { ⌜ (i < n) × (n ≤ 4096) ⌝ }
+    ensures { λ r. ⌜ now r ≡ lineIn (linesOf d) n (now (text .entry)) (nodeLine (linesOf d) i) ⌝ }
+{
+    match d {
+        Edition::One => reading::part(text, 57 + 73 * i, 73),
+        Edition::Two => reading::part(text, 114 + 105 * i, 105),
+    }
+}
+
+// The wind of a node, from the fields of its line: edition 1 has none, and every node has the head's.
+fn node_wind(d: Edition, held: Wind, values: [u64; 6]) -> Wind
+    ensures { λ r. ⌜ r ≡ windIn d held values ⌝ }
+{
+    match d {
+        Edition::One => held,
+        Edition::Two => Wind {
+            x: patterns::float_of(values[4]),
+            y: patterns::float_of(values[5]),
+        },
+    }
+}
+
+// Node i, as the lines hold it. The head's wind is read once for all nodes.
+fn node_at(d: Edition, n: usize, h: &[f64], text: &[u8], held: Wind, i: usize) -> Node
+    requires { ⌜ (i < n) × (length (now h) ≡ n) × (n ≤ 4096) × (held ≡ headWind (linesOf d) n (now text)) ⌝ }
+    ensures { λ r. ⌜ r ≡ nodeIn (linesOf d) n (now (text .entry)) (now (h .entry)) i ⌝ }
+{
+    let values = reading::values(node_text(d, n, text, i));
+    let wind = node_wind(d, held, values);
     Node {
         h: h[i],
         earlier: patterns::float_of(values[0]),
         z: patterns::float_of(values[1]),
         u: patterns::float_of(values[2]),
         v: patterns::float_of(values[3]),
+        wx: wind.x,
+        wy: wind.y,
     }
 }
 
 // Row 10: the first loaded node that is out of its bounds.
-fn bounds(n: usize, h: &[f64], text: &[u8]) -> Answer
-    requires { ⌜ (length (now h) ≡ n) × (n ≤ 4096) ⌝ }
-    ensures { λ r. ⌜ r ≡ scan (row10Read n (now (h .entry)) (now (text .entry))) n ⌝ }
+fn bounds(d: Edition, n: usize, h: &[f64], text: &[u8], held: Wind) -> Answer
+    requires { ⌜ (length (now h) ≡ n) × (n ≤ 4096) × (held ≡ headWind (linesOf d) n (now text)) ⌝ }
+    ensures { λ r. ⌜ r ≡ scan (row10In (linesOf d) n (now (text .entry)) (now (h .entry))) n ⌝ }
 {
     for i in 0..n {
-        let answer = rows::tested(limits::in_bounds(node_at(n, h, text, i)), 10, i);
+        let inside = limits::in_bounds(node_at(d, n, h, text, held, i));
+        let answer = rows::tested(inside, 10, i);
         if answer.number != 0 {
             return answer;
         }
@@ -150,35 +327,45 @@ fn bounds(n: usize, h: &[f64], text: &[u8]) -> Answer
     rows::accept()
 }
 
-// The rows of a text against a mesh: its lines, trailing bytes, the head's wind, the loaded values.
-pub(crate) fn text_rows(n: usize, e: usize, h: &[f64], text: &[u8]) -> Answer
+// The rows of a text against a mesh: its lines, trailing bytes, the loaded values.
+pub(crate) fn text_rows(
+    d: Edition,
+    n: usize,
+    e: usize,
+    sum: u64,
+    p: Parameters,
+    h: &[f64],
+    text: &[u8],
+) -> Answer
     requires { ⌜ (length (now h) ≡ n) × (n ≤ 4096) ⌝ }
-    ensures { λ r. ⌜ r ≡ textRows n e (now (h .entry)) (now (text .entry)) ⌝ }
+    ensures { λ r. ⌜ r ≡ rowsIn (linesOf d) n (now (text .entry)) e sum p (now (h .entry)) ⌝ }
 {
-    let read = lines(n, e, text);
-    let over = rows::tested(text.len() <= 70 + 73 * n, 20, n + 2);
-    let wind = limits::held_wind(clock_of(n, text).wind());
-    let values = bounds(n, h, text);
-    rows::first(read, rows::first(over, rows::first(wind, values)))
+    let read = lines(d, n, e, sum, p, text);
+    let over = trailing(d, n, text);
+    let values = bounds(d, n, h, text, head_wind(d, n, text));
+    rows::first(read, rows::first(over, values))
 }
 
-// Node i's values into the four runs.
+// Node i's values into the six runs.
 fn put_node(state: &mut [f64], n: usize, i: usize, c: Node)
-    requires { ⌜ (i < n) × (length (now state) ≡ stateRuns * n) ⌝ }
-    ensures { λ _. ⌜ now (state .exit) ≡ set (set (set (set (now (state .entry)) (0 * n + i) (c .earlier)) (1 * n + i) (c .z)) (2 * n + i) (c .u)) (3 * n + i) (c .v) ⌝ }
+    requires { ⌜ (i < n) × (n ≤ 4096) × (length (now state) ≡ stateRuns * n) ⌝ }
+    ensures { λ _. ⌜ now (state .exit) ≡ stored n (now (state .entry)) i c ⌝ }
 {
     state[0 * n + i] = c.earlier;
     state[1 * n + i] = c.z;
     state[2 * n + i] = c.u;
     state[3 * n + i] = c.v;
+    state[4 * n + i] = c.wx;
+    state[5 * n + i] = c.wy;
 }
 
 // The loaded state, where the text's rows have passed.
-pub(crate) fn fill(state: &mut [f64], n: usize, h: &[f64], text: &[u8])
+pub(crate) fn fill(state: &mut [f64], d: Edition, n: usize, h: &[f64], text: &[u8])
     requires { ⌜ (n ≤ 4096) × (length (now h) ≡ n) × (length (now state) ≡ stateRuns * n) ⌝ }
-    ensures { λ _. ⌜ now (state .exit) ≡ loadedState n (now (h .entry)) (now (text .entry)) ⌝ }
+    ensures { λ _. ⌜ now (state .exit) ≡ stateIn (linesOf d) n (now (text .entry)) (now (h .entry)) ⌝ }
 {
+    let held = head_wind(d, n, text);
     for i in 0..n {
-        put_node(state, n, i, node_at(n, h, text, i));
+        put_node(state, n, i, node_at(d, n, h, text, held, i));
     }
 }

@@ -37,7 +37,7 @@ use Rattle.mesh.specs.Private.{placesOf, Sound}
 use Rattle.mesh.proofs.SideLaws.{sides-read}
 use Rattle.passes.specs.declared.velocities.Slope.{Slope}
 use Rattle.velocity.specs.Velocity.{H, H′, r, p, m, q, gx, gy, wx, wy, n, Rx, Ry, U′ as flowU′, V′ as flowV′, flow, flowOf, pushOf}
-use Rattle.passes.specs.Equations.{Given, count, node, kindOf, cornersOf, floatsAt, floating, threeOf, meansAt, sharesAt, R, S, floatS, rise, both, slopeX, slopeY, Px, Py, advectionU, advectionV, Au, Av, pushAt, flowAt, U′, V′}
+use Rattle.passes.specs.Equations.{Given, count, node, newWind, kindOf, cornersOf, floatsAt, floating, threeOf, meansAt, sharesAt, R, S, floatS, rise, both, slopeX, slopeY, Px, Py, advectionU, advectionV, Au, Av, pushAt, flowAt, U′, V′}
 use Rattle.outcomes.specs.Outcomes.{riseRow, flowRow}
 use Rattle.passes.specs.Row13.{riseRows, flowRows}
 use Rattle.passes.specs.Settle.{workRuns}
@@ -113,9 +113,9 @@ module _ (g : Given) (z : Fits g) where
             let k = ec i in
             means (node g (k .first)) (node g (k .second)) (node g (k .third)) (es i))
 
-        pub its-shares : {v : Shares} → v ≡ shares (lessIf (g .p .advection)) (g .p) (g .wind) m s → threeOf v ≡ sharesAt g t
+        pub its-shares : {v : Shares} → v ≡ shares (lessIf (g .p .advection)) (g .p) m s → threeOf v ≡ sharesAt g t
         unfolding sharesAt
-        its-shares ev = ap threeOf ev ∙ (λ i. threeOf (shares (sym (z .setting) i) (g .p) (g .wind) (its-means i) (es i)))
+        its-shares ev = ap threeOf ev ∙ (λ i. threeOf (shares (sym (z .setting) i) (g .p) (its-means i) (es i)))
 
     -- z + z' of a corner, and what the triangle adds to Px and to Py
     both-read : {work : List Float} (fs : List (ℕ → Float)) (i : ℕ) → i < count g → work ≡ runsOf (count g) (rise g ∷ fs)
@@ -201,20 +201,20 @@ module _ (g : Given) (z : Fits g) where
     its-S = ap (λ (l : List ℕ). ofInt binary64 (pos (getD l i 0))) es ∙ ap (λ (k : ℕ). ofInt binary64 (pos k)) (getD-table (count g) (S g) i 0 h)
 
     pub its-rise : {work : List Float} {c : Node} {s v : Float} → work ≡ risesTo g i → c ≡ node g i → s ≡ ofInt binary64 (pos (getD sums i 0))
-        → v ≡ riseOf (g .p) (kindOf g i) (g .forcing .elevation) c s (inRun (count g) 0 work i) → v ≡ rise g i
+        → v ≡ riseOf (g .p) (kindOf g i) (g .elevation) c s (inRun (count g) 0 work i) → v ≡ rise g i
     unfolding rise
     its-rise ew ec eS ev =
         let r = ap (λ (l : List Float). inRun (count g) 0 l i) ew ∙ run-read (count g) (turned i (rise g) (R g) ∷ zero ∷ zero ∷ advected g) 0 i nan (lit< tt) h ∙ turn-here (rise g) (R g) i in
-        ev ∙ (λ j. riseOf (g .p) (kindOf g i) (g .forcing .elevation) (ec j) ((eS ∙ its-S) j) (r j))
+        ev ∙ (λ j. riseOf (g .p) (kindOf g i) (g .elevation) (ec j) ((eS ∙ its-S) j) (r j))
 
     -- off, Au and Av are not looked at
-    unread : (on : Bool) (au av : ℕ → Float) → flowOf (lessIf on) (g .p) (kindOf g i) (pushOf (node g i) (g .wind) (g .forcing) (floatS g i) (rise g i) (Px g i) (Py g i) (cond on au zero i) (cond on av zero i)) ≡ flowOf (lessIf on) (g .p) (kindOf g i) (pushOf (node g i) (g .wind) (g .forcing) (floatS g i) (rise g i) (Px g i) (Py g i) (au i) (av i))
+    unread : (on : Bool) (au av : ℕ → Float) → flowOf (lessIf on) (g .p) (kindOf g i) (pushOf (node g i) (newWind g i) (floatS g i) (rise g i) (Px g i) (Py g i) (cond on au zero i) (cond on av zero i)) ≡ flowOf (lessIf on) (g .p) (kindOf g i) (pushOf (node g i) (newWind g i) (floatS g i) (rise g i) (Px g i) (Py g i) (au i) (av i))
     unfolding flowOf flow flowU′ flowV′ Rx Ry n p q m r wx wy gx gy H H′
     unread true au av = refl
     unread false au av = refl
 
     pub its-flow : {work : List Float} {v : Flow} → work ≡ flowsTo g i
-        → v ≡ flowOf (lessIf (g .p .advection)) (g .p) (kindOf g i) (pushOf (node g i) (g .wind) (g .forcing) (ofInt binary64 (pos (getD sums i 0))) (inRun (count g) 0 work i) (inRun (count g) 1 work i) (inRun (count g) 2 work i) (inRun (count g) 3 work i) (inRun (count g) 4 work i))
+        → v ≡ flowOf (lessIf (g .p .advection)) (g .p) (kindOf g i) (pushOf (node g i) (newWind g i) (ofInt binary64 (pos (getD sums i 0))) (inRun (count g) 0 work i) (inRun (count g) 1 work i) (inRun (count g) 2 work i) (inRun (count g) 3 work i) (inRun (count g) 4 work i))
         → v ≡ flowAt g i
     unfolding flowAt
     its-flow {work} ew ev =
@@ -226,7 +226,7 @@ module _ (g : Given) (z : Fits g) where
         let ru = read 3 (lit< tt) in
         let rv = read 4 (lit< tt) in
         ev
-        ∙ (λ j. flowOf (lessIf (g .p .advection)) (g .p) (kindOf g i) (pushOf (node g i) (g .wind) (g .forcing) (its-S j) (rz j) (rx j) (ry j) (ru j) (rv j)))
+        ∙ (λ j. flowOf (lessIf (g .p .advection)) (g .p) (kindOf g i) (pushOf (node g i) (newWind g i) (its-S j) (rz j) (rx j) (ry j) (ru j) (rv j)))
         ∙ unread (g .p .advection) (Au g) (Av g)
         ∙ (λ j. flowOf (sym (z .setting) j) (g .p) (kindOf g i) (pushAt g i))
 

@@ -1,6 +1,6 @@
 -- What the passes leave together, and the outcomes of `settle`.
-use Prim.Native.Nat.{ℕ, _*_, _<_}
-use mathlib.Core.Path.{_≡_, ap, _∙_}
+use Prim.Native.Nat.{ℕ, _+_, _*_, _<_}
+use mathlib.Core.Path.{_≡_, refl, ap, _∙_}
 use mathlib.Core.Bool.{true, cond, _&&_}
 use mathlib.Core.List.{List, [], _∷_}
 use native.Mathlib.Nat.{one-mul}
@@ -13,13 +13,14 @@ use Rattle.rows.specs.Numbers.{plus0}
 use Rattle.lists.specs.Table.{table, zeros}
 use Rattle.lists.specs.Runs.{isRuns, inRun, runsOf}
 use Rattle.lists.specs.Private.{withRun}
-use Rattle.rows.specs.Scan.{_then_}
-use Rattle.rows.proofs.ScanLaws.{row-passed, then-first, other-number, both-left, both-right}
+use Rattle.rows.proofs.ScanLaws.{row-passed, other-number, both-left, both-right}
 use Rattle.lists.proofs.RunLaws.{run-read, run-put, run-same, runs-alike, as-runs}
-use Rattle.quantities.specs.Operations.{lessIf}
-use Rattle.bounds.specs.State.{stateRuns, runRows}
-use Rattle.bounds.proofs.StateLaws.{AcceptedRun, accepted-run}
-use Rattle.passes.specs.Equations.{Given, count, rise, U′, V′, nextState}
+use Rattle.quantities.specs.declared.Parameters.{Parameters}
+use Rattle.mesh.specs.Lent.{Mesh, N}
+use Rattle.bounds.specs.State.{stateRuns}
+use Rattle.bounds.specs.Forcing.{windRuns, elevationOf, windsOf, forcedRows}
+use Rattle.bounds.proofs.ForcingLaws.{AcceptedForced, accepted-forced}
+use Rattle.passes.specs.Equations.{Given, given, count, rise, U′, V′, nextState}
 use Rattle.passes.specs.Row13.{row13}
 use Rattle.passes.specs.Settle.{Rooms, workRuns, row1Rooms, settled, settlesTo, settleOf}
 use Rattle.passes.specs.Private.{Fits, zero, advected, clearRoom, flowRoom}
@@ -29,74 +30,89 @@ pub cleared-room : (g : Given) (long : ℕ) {now : List Float} → long ≡ work
 unfolding table
 cleared-room g long e q = q ∙ ap zeros e ∙ runs-alike (count g) workRuns plus0
 
--- four runs written one after the other
-pub published : (n : ℕ) (next : List Float) (a b c d : ℕ → Float) → length next ≡ stateRuns * n
-    → withRun n 3 d (withRun n 2 c (withRun n 1 b (withRun n 0 a next))) ≡ runsOf n (a ∷ b ∷ c ∷ d ∷ [])
+-- six runs written one after the other
+pub published : (n : ℕ) (next : List Float) (a b c d e f : ℕ → Float) → length next ≡ stateRuns * n
+    → withRun n 5 f (withRun n 4 e (withRun n 3 d (withRun n 2 c (withRun n 1 b (withRun n 0 a next))))) ≡ runsOf n (a ∷ b ∷ c ∷ d ∷ e ∷ f ∷ [])
 unfolding table
-published n next a b c d e =
-    let l = inRun n 1 next in
-    let m = inRun n 2 next in
-    let k = inRun n 3 next in
-    ap (λ (r : List Float). withRun n 3 d (withRun n 2 c (withRun n 1 b (withRun n 0 a r)))) (as-runs n nan stateRuns next e)
-    ∙ ap (λ (r : List Float). withRun n 3 d (withRun n 2 c (withRun n 1 b r))) (run-put n (inRun n 0 next ∷ l ∷ m ∷ k ∷ []) 0 a (lit< tt))
-    ∙ ap (λ (r : List Float). withRun n 3 d (withRun n 2 c r)) (run-put n (a ∷ l ∷ m ∷ k ∷ []) 1 b (lit< tt))
-    ∙ ap (λ (r : List Float). withRun n 3 d r) (run-put n (a ∷ b ∷ m ∷ k ∷ []) 2 c (lit< tt))
-    ∙ run-put n (a ∷ b ∷ c ∷ k ∷ []) 3 d (lit< tt)
+published n next a b c d e f long =
+    let old = inRun n in
+    let to4 : List Float → List Float = λ r. withRun n 5 f (withRun n 4 e r) in
+    let to2 : List Float → List Float = λ r. to4 (withRun n 3 d (withRun n 2 c r)) in
+    ap (λ (r : List Float). to2 (withRun n 1 b (withRun n 0 a r))) (as-runs n nan stateRuns next long)
+    ∙ ap (λ (r : List Float). to2 (withRun n 1 b r)) (run-put n (old 0 next ∷ old 1 next ∷ old 2 next ∷ old 3 next ∷ old 4 next ∷ old 5 next ∷ []) 0 a (lit< tt))
+    ∙ ap to2 (run-put n (a ∷ old 1 next ∷ old 2 next ∷ old 3 next ∷ old 4 next ∷ old 5 next ∷ []) 1 b (lit< tt))
+    ∙ ap (λ (r : List Float). to4 (withRun n 3 d r)) (run-put n (a ∷ b ∷ old 2 next ∷ old 3 next ∷ old 4 next ∷ old 5 next ∷ []) 2 c (lit< tt))
+    ∙ ap to4 (run-put n (a ∷ b ∷ c ∷ old 3 next ∷ old 4 next ∷ old 5 next ∷ []) 3 d (lit< tt))
+    ∙ ap (λ (r : List Float). withRun n 5 f r) (run-put n (a ∷ b ∷ c ∷ d ∷ old 4 next ∷ old 5 next ∷ []) 4 e (lit< tt))
+    ∙ run-put n (a ∷ b ∷ c ∷ d ∷ e ∷ old 5 next ∷ []) 5 f (lit< tt)
 
--- the next state, from z in the state and what the work room holds
-pub next-state : (g : Given) {next work : List Float} → work ≡ flowRoom g
-    → next ≡ runsOf (count g) (inRun (count g) 1 (g .state) ∷ inRun (count g) 0 work ∷ inRun (count g) 1 work ∷ inRun (count g) 2 work ∷ []) → next ≡ nextState g
+-- the next state, from z in the state, what the work room holds, and the new winds
+pub next-state : (g : Given) {next work : List Float} → work ≡ flowRoom g → let n = count g in
+    next ≡ runsOf n (inRun n 1 (g .state) ∷ inRun n 0 work ∷ inRun n 1 work ∷ inRun n 2 work ∷ inRun n 0 (g .winds) ∷ inRun n 1 (g .winds) ∷ []) → next ≡ nextState g
 unfolding nextState
 next-state g ew en =
     let n = count g in
     let z = inRun n 1 (g .state) in
+    let x = inRun n 0 (g .winds) in
+    let y = inRun n 1 (g .winds) in
     let fs = rise g ∷ U′ g ∷ V′ g ∷ advected g in
     let r = flowRoom g in
     let read : (k : ℕ) → k < workRuns → (i : ℕ) → i < n → inRun n k r i ≡ getD fs k (λ _. nan) i = λ k h i l. run-read n fs k i nan h l in
     en
-    ∙ ap (λ (w : List Float). runsOf n (z ∷ inRun n 0 w ∷ inRun n 1 w ∷ inRun n 2 w ∷ [])) ew
-    ∙ run-same n (z ∷ zero ∷ inRun n 1 r ∷ inRun n 2 r ∷ []) 1 (inRun n 0 r) (rise g) (read 0 (lit< tt))
-    ∙ run-same n (z ∷ rise g ∷ zero ∷ inRun n 2 r ∷ []) 2 (inRun n 1 r) (U′ g) (read 1 (lit< tt))
-    ∙ run-same n (z ∷ rise g ∷ U′ g ∷ zero ∷ []) 3 (inRun n 2 r) (V′ g) (read 2 (lit< tt))
+    ∙ ap (λ (w : List Float). runsOf n (z ∷ inRun n 0 w ∷ inRun n 1 w ∷ inRun n 2 w ∷ x ∷ y ∷ [])) ew
+    ∙ run-same n (z ∷ zero ∷ inRun n 1 r ∷ inRun n 2 r ∷ x ∷ y ∷ []) 1 (inRun n 0 r) (rise g) (read 0 (lit< tt))
+    ∙ run-same n (z ∷ rise g ∷ zero ∷ inRun n 2 r ∷ x ∷ y ∷ []) 2 (inRun n 1 r) (U′ g) (read 1 (lit< tt))
+    ∙ run-same n (z ∷ rise g ∷ U′ g ∷ zero ∷ x ∷ y ∷ []) 3 (inRun n 2 r) (V′ g) (read 2 (lit< tt))
 
 -- ---- the outcomes
-module _ (g : Given) (also : Answer) (r : Rooms) where
+module _ (m : Mesh) (p : Parameters) (state f : List Float) (also : Answer) (r : Rooms) where
   abbrev pub asked : Answer
-  asked = runRows (row1Rooms r (count g)) (g .mesh) (g .p) (g .state) then also
+  asked = forcedRows (row1Rooms r (N m)) m p state also f
+
+  abbrev pub its : Given
+  its = given m p state (elevationOf f) (windsOf f)
 
   -- refused before anything is worked out
-  pub stopped : {a : Answer} → a ≡ asked → (a .number ≡ 0 → ⊥) → record { answer = a; rooms = r } ≡ settleOf g also r
+  pub stopped : {a : Answer} → a ≡ asked → (a .number ≡ 0 → ⊥) → record { answer = a; rooms = r } ≡ settleOf m p state f also r
   unfolding settleOf settlesTo
   stopped e h = (λ i. record { answer = e i; rooms = r }) ∙ rw (ne-eqb _ _ (other-number e h))
 
   module _ (ok : asked .number ≡ 0) where
-    run : AcceptedRun (row1Rooms r (count g)) (g .mesh) (g .p) (g .state)
-    run = accepted-run _ _ _ _ (then-first _ _ ok)
+    all : AcceptedForced (row1Rooms r (N m)) m p state also f
+    all = accepted-forced _ _ _ _ _ _ ok
 
-    pub fits : g .less ≡ lessIf (g .p .advection) → Fits g
-    fits e = record { shape = run .shape; state = run .long; setting = e }
+    pub forcing-long : length f ≡ 1 + windRuns * N m
+    forcing-long = all .long
 
-    all-three : (isRuns (length (r .next)) stateRuns (count g) && isRuns (length (r .work)) workRuns (count g) && isRuns (length (r .sums)) 1 (count g)) ≡ true
-    all-three = row-passed _ 0 0 (run .others)
+    -- what the passes are given has these lengths, with the winds as the part of the forcing past its elevation
+    pub fits : (winds : List Float) → Fits (given m p state (elevationOf f) winds)
+    fits winds = record { shape = all .run .shape; state = all .run .long; setting = refl }
 
-    first-two : (isRuns (length (r .next)) stateRuns (count g) && isRuns (length (r .work)) workRuns (count g)) ≡ true
-    first-two = both-left _ (isRuns (length (r .sums)) 1 (count g)) all-three
+    all-three : (isRuns (length (r .next)) stateRuns (N m) && isRuns (length (r .work)) workRuns (N m) && isRuns (length (r .sums)) 1 (N m)) ≡ true
+    all-three = row-passed _ 0 0 (all .others)
 
-    pub next-long : length (r .next) ≡ stateRuns * count g
-    next-long = eqb-true _ _ (both-left _ (isRuns (length (r .work)) workRuns (count g)) first-two)
+    first-two : (isRuns (length (r .next)) stateRuns (N m) && isRuns (length (r .work)) workRuns (N m)) ≡ true
+    first-two = both-left _ (isRuns (length (r .sums)) 1 (N m)) all-three
 
-    pub work-long : length (r .work) ≡ workRuns * count g
-    work-long = eqb-true _ _ (both-right (isRuns (length (r .next)) stateRuns (count g)) _ first-two)
+    pub next-long : length (r .next) ≡ stateRuns * N m
+    next-long = eqb-true _ _ (both-left _ (isRuns (length (r .work)) workRuns (N m)) first-two)
 
-    pub sums-long : length (r .sums) ≡ count g
+    pub work-long : length (r .work) ≡ workRuns * N m
+    work-long = eqb-true _ _ (both-right (isRuns (length (r .next)) stateRuns (N m)) _ first-two)
+
+    pub sums-long : length (r .sums) ≡ N m
     sums-long =
-        eqb-true _ _ (both-right (isRuns (length (r .next)) stateRuns (count g) && isRuns (length (r .work)) workRuns (count g)) _ all-three)
-        ∙ one-mul (count g)
+        eqb-true _ _ (both-right (isRuns (length (r .next)) stateRuns (N m) && isRuns (length (r .work)) workRuns (N m)) _ all-three)
+        ∙ one-mul (N m)
 
     -- worked out: what is left is zero but for the next state
-    pub worked : {a : Answer} {next work : List Float} {sums : List ℕ} → a ≡ row13 g → next ≡ cond (eqb (a .number) 0) (nextState g) (r .next)
-        → work ≡ zeros (workRuns * count g) → sums ≡ table (count g) (λ _. 0)
-        → settled a next work sums ≡ settleOf g also r
+    pub worked : {winds : List Float} {a : Answer} {next work : List Float} {sums : List ℕ} → winds ≡ windsOf f
+        → let g = given m p state (elevationOf f) winds in
+        a ≡ row13 g → next ≡ cond (eqb (a .number) 0) (nextState g) (r .next) → work ≡ zeros (workRuns * N m) → sums ≡ table (N m) (λ _. 0) → settled a next work sums ≡ settleOf m p state f also r
     unfolding settleOf settlesTo
-    worked e en ew es =
-        (λ i. settled (e i) ((en ∙ ap (λ (b : Answer). cond (eqb (b .number) 0) (nextState g) (r .next)) e) i) (ew i) (es i)) ∙ rw (eq-eqb _ _ ok)
+    worked {winds} q e en ew es =
+        let g = given m p state (elevationOf f) winds in
+        let same : g ≡ its = λ i. given m p state (elevationOf f) (q i) in
+        let answer = e ∙ ap row13 same in
+        let next = en ∙ (λ i. cond (eqb (answer i .number) 0) (nextState (same i)) (r .next)) in
+        (λ i. settled (answer i) (next i) (ew i) (es i)) ∙ rw (eq-eqb _ _ ok)

@@ -9,7 +9,6 @@ use Rattle.lists.specs.Runs.{runsOf}
 use Rattle.lists.specs.Gather.{Three, alike, Adding, gathered}
 use Rattle.quantities.specs.declared.Parameters.{Parameters}
 use Rattle.quantities.specs.declared.Wind.{Wind}
-use Rattle.quantities.specs.declared.Forcing.{Forcing}
 use Rattle.quantities.specs.declared.Node.{Node}
 use Rattle.quantities.specs.declared.Sides.{Sides}
 use Rattle.quantities.specs.declared.Shares.{Shares}
@@ -25,6 +24,7 @@ use Rattle.mesh.specs.Lent.{Mesh, N, E, corners}
 use Rattle.mesh.specs.Geometry.{sides}
 use Rattle.mesh.specs.Geometry as G
 use Rattle.bounds.specs.State.{nodeOf}
+use Rattle.bounds.specs.Forcing.{windAt}
 
 -- floats, from +0
 abbrev pub floating : Adding Float
@@ -33,17 +33,17 @@ floating = record { start = plus0; plus = _⊕_ }
 abbrev pub threeOf : Shares → Three Float
 threeOf s = record { first = s .r1; second = s .r2; third = s .r3 }
 
--- what a step reads: a mesh and parameters, the state, the present wind, and a forcing; and how it takes an advective term, which the parameters say
+-- what a step reads: a mesh and parameters, the state, a forcing's elevation and its winds; and how it takes an advective term, which the parameters say
 pub record Given : Type 0 where
   pub mesh : Mesh
   pub p : Parameters
   pub state : List Float
-  pub wind : Wind
-  pub forcing : Forcing
+  pub elevation : Float
+  pub winds : List Float
   pub less : Taking
 
-abbrev pub given : Mesh → Parameters → List Float → Wind → Forcing → Given
-given m p state w f = record { mesh = m; p = p; state = state; wind = w; forcing = f; less = lessIf (p .advection) }
+abbrev pub given : Mesh → Parameters → List Float → Float → List Float → Given
+given m p state elevation winds = record { mesh = m; p = p; state = state; elevation = elevation; winds = winds; less = lessIf (p .advection) }
 
 module _ (g : Given) where
   abbrev pub count : ℕ
@@ -51,6 +51,10 @@ module _ (g : Given) where
 
   abbrev pub node : ℕ → Node
   node = nodeOf count (g .mesh .h) (g .state)
+
+  -- the new wind of node i
+  abbrev pub newWind : ℕ → Wind
+  newWind = windAt count (g .winds)
 
   -- the kind of node i
   abbrev pub kindOf : ℕ → ℕ
@@ -71,7 +75,7 @@ module _ (g : Given) where
 
   -- what its corners receive
   unfoldable pub sharesAt : ℕ → Three Float
-  sharesAt t = threeOf (shares (g .less) (g .p) (g .wind) (meansAt t) (floatsAt t))
+  sharesAt t = threeOf (shares (g .less) (g .p) (meansAt t) (floatsAt t))
 
   -- "R of a node starts at +0 and adds its corner values by ascending triangle number."
   abbrev pub R : ℕ → Float
@@ -87,7 +91,7 @@ module _ (g : Given) where
 
   -- z' of node i
   unfoldable pub rise : ℕ → Float
-  rise i = riseOf (g .p) (kindOf i) (g .forcing .elevation) (node i) (floatS i) (R i)
+  rise i = riseOf (g .p) (kindOf i) (g .elevation) (node i) (floatS i) (R i)
 
   -- "((z1+z1')·b1 + (z2+z2')·b2) + (z3+z3')·b3", of triangle t with the b or the a of its corners
   abbrev pub both : ℕ → Float
@@ -127,7 +131,7 @@ module _ (g : Given) where
 
   -- U' and V' of node i, and what they are made from
   abbrev pub pushAt : ℕ → Push
-  pushAt i = pushOf (node i) (g .wind) (g .forcing) (floatS i) (rise i) (Px i) (Py i) (Au i) (Av i)
+  pushAt i = pushOf (node i) (newWind i) (floatS i) (rise i) (Px i) (Py i) (Au i) (Av i)
 
   unfoldable pub flowAt : ℕ → Flow
   flowAt i = flowOf (g .less) (g .p) (kindOf i) (pushAt i)
@@ -138,9 +142,9 @@ module _ (g : Given) where
   abbrev pub V′ : ℕ → Float
   V′ i = flowAt i .v
 
-  -- "The next state is z, z', U', V'": with U' and V' of each node
+  -- "The next state is z, z', U', V'", and of #105 Wx', Wy': with U' and V' of each node
   abbrev pub nextBy : (ℕ → Flow) → List Float
-  nextBy flows = runsOf count ((λ i. node i .z) ∷ rise ∷ (λ i. flows i .u) ∷ (λ i. flows i .v) ∷ [])
+  nextBy flows = runsOf count ((λ i. node i .z) ∷ rise ∷ (λ i. flows i .u) ∷ (λ i. flows i .v) ∷ (λ i. newWind i .x) ∷ (λ i. newWind i .y) ∷ [])
 
   unfoldable pub nextState : List Float
   nextState = nextBy flowAt

@@ -8,12 +8,16 @@ use lib.Ieee.{Float}
 use Rattle.rows.specs.declared.Answer.{Answer}
 use Rattle.lists.specs.Table.{table, zeros}
 use Rattle.lists.specs.Runs.{isRuns}
-use Rattle.rows.specs.Scan.{row, _then_}
-use Rattle.bounds.specs.State.{stateRuns, runRows}
-use Rattle.passes.specs.Equations.{Given, count, nextState}
+use Rattle.rows.specs.Scan.{row}
+use Rattle.quantities.specs.declared.Parameters.{Parameters}
+use Rattle.mesh.specs.Lent.{Mesh, N}
+use Rattle.bounds.specs.State.{stateRuns}
+use Rattle.bounds.specs.Forcing.{elevationOf, windsOf, forcedRows}
+use Rattle.passes.specs.Equations.{Given, given, count, nextState}
 use Rattle.passes.specs.Row13.{row13}
 
 -- "The next state goes to a second lent slice of 4N; work room is 3N binary64 and N 64-bit unsigned." Document 02, #103: "Work room grows by 2N binary64."
+-- #105: "6N numbers …, and the next slice grows too"
 pub record Rooms : Type 0 where
   pub next : List Float
   pub work : List Float
@@ -48,6 +52,8 @@ settlesTo g r first last =
     (record { answer = last; rooms = cleared (cond (eqb (last .number) 0) (nextState g) (r .next)) (count g) })
     (record { answer = first; rooms = r })
 
--- also: what else is tested, after row 10
-unfoldable pub settleOf : Given → Answer → Rooms → Settled
-settleOf g also r = settlesTo g r (runRows (row1Rooms r (count g)) (g .mesh) (g .p) (g .state) then also) (row13 g)
+-- also: what else is tested, after row 10 and before row 12 of the forcing f
+unfoldable pub settleOf : Mesh → Parameters → List Float → List Float → Answer → Rooms → Settled
+settleOf m p state f also r =
+    let g = given m p state (elevationOf f) (windsOf f) in
+    settlesTo g r (forcedRows (row1Rooms r (N m)) m p state also f) (row13 g)

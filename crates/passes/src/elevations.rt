@@ -4,10 +4,8 @@ use super::state;
 use super::sums;
 use geometry::Corners;
 use lists::slices;
-use quantities::Forcing;
 use quantities::Parameters;
 use quantities::Sides;
-use quantities::Wind;
 use rows::Answer;
 use triangle::Means;
 ghost use mathlib.Core.Path.{_≡_};
@@ -48,11 +46,11 @@ pub(crate) fn assemble(
     kind: &[u8],
     p: Parameters,
     state: &[f64],
-    w: Wind,
-    f: Forcing,
+    elevation: f64,
+    winds: &[f64],
 )
     ghost { Given }
-    requires { λ g. ⌜ given (mesh (now x) (now y) (now tri) (now h) (now kind)) p (now state) w f ≡ g ⌝ }
+    requires { λ g. ⌜ given (mesh (now x) (now y) (now tri) (now h) (now kind)) p (now state) elevation (now winds) ≡ g ⌝ }
     requires { λ g. ⌜ Fits g ⌝ }
     requires { λ g. ⌜ (length (now work) ≡ workRuns * count g) × (length (now sums) ≡ count g) ⌝ }
     ensures { λ g _. ⌜ (now (work .exit) ≡ sumRoom g) × (now (sums .exit) ≡ table (count g) (S g)) ⌝ }
@@ -68,7 +66,7 @@ pub(crate) fn assemble(
         let s = reading::floats_of(whole);
         let m = means_at(n, h, state, c, s);
         sums::spread_advection(work, n, c, p.advection, m);
-        sums::spread(work, 0 * n, c, elevation::shares(p, w, m, s));
+        sums::spread(work, 0 * n, c, elevation::shares(p, m, s));
         sums::spread_area(sums, c, reading::area_of(whole));
     }
 }
@@ -98,11 +96,11 @@ pub(crate) fn rises(
     kind: &[u8],
     p: Parameters,
     state: &[f64],
-    w: Wind,
-    f: Forcing,
+    elevation: f64,
+    winds: &[f64],
 ) -> Answer
     ghost { Given }
-    requires { λ g. ⌜ given (mesh (now x) (now y) (now tri) (now h) (now kind)) p (now state) w f ≡ g ⌝ }
+    requires { λ g. ⌜ given (mesh (now x) (now y) (now tri) (now h) (now kind)) p (now state) elevation (now winds) ≡ g ⌝ }
     requires { λ g. ⌜ Fits g ⌝ }
     requires { λ g. ⌜ (now work ≡ sumRoom g) × (now sums ≡ table (count g) (S g)) ⌝ }
     ensures { λ g a. ⌜ (a ≡ riseRows g) × (now (work .exit) ≡ riseRoom g) ⌝ }
@@ -112,7 +110,7 @@ pub(crate) fn rises(
     for i in 0..n {
         let c = state::node_of(n, h, state, i);
         let s = geometry::sum_of(sums[i]);
-        let z = elevation::rise_of(p, kind[i], f.elevation, c, s, work[0 * n + i]);
+        let z = elevation::rise_of(p, kind[i], elevation, c, s, work[0 * n + i]);
         work[0 * n + i] = z;
         all = all & (outcomes::rise_row(c.h, z, i).number == 0);
     }

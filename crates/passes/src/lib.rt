@@ -7,9 +7,7 @@ pub(crate) mod velocities;
 
 use bounds::STATE_RUNS;
 use lists::slices;
-use quantities::Forcing;
 use quantities::Parameters;
-use quantities::Wind;
 use rows::Answer;
 ghost use mathlib.Core.Path.{_≡_};
 ghost use mathlib.Core.Bool.{cond};
@@ -22,6 +20,7 @@ ghost use Rattle.lists.specs.Runs.{inRun, runsOf};
 ghost use Rattle.lists.specs.Private.{withRun};
 ghost use Rattle.mesh.specs.Lent.{mesh};
 ghost use Rattle.bounds.specs.State.{stateRuns};
+ghost use Rattle.bounds.specs.Forcing.{windRuns};
 ghost use Rattle.passes.specs.Equations.{Given, given, count, nextState};
 ghost use Rattle.passes.specs.Row13.{row13};
 ghost use Rattle.passes.specs.Settle.{workRuns, lentRooms, settled, settleOf};
@@ -42,22 +41,22 @@ fn solve(
     kind: &[u8],
     p: Parameters,
     state: &[f64],
-    w: Wind,
-    f: Forcing,
+    elevation: f64,
+    winds: &[f64],
 ) -> Answer
     ghost { Given }
-    requires { λ g. ⌜ given (mesh (now x) (now y) (now tri) (now h) (now kind)) p (now state) w f ≡ g ⌝ }
+    requires { λ g. ⌜ given (mesh (now x) (now y) (now tri) (now h) (now kind)) p (now state) elevation (now winds) ≡ g ⌝ }
     requires { λ g. ⌜ Fits g ⌝ }
-    requires { λ g. ⌜ (length (now work) ≡ workRuns * count g) × (length (now sums) ≡ count g) ⌝ }
+    requires { λ g. ⌜ (length (now work) ≡ workRuns * count g) × (length (now sums) ≡ count g) × (length (now winds) ≡ windRuns * count g) ⌝ }
     ensures { λ g a. ⌜ (a ≡ row13 g) × (a .number ≡ 0 → now (work .exit) ≡ flowRoom g) ⌝ }
 {
-    elevations::assemble(work, sums, x, y, tri, h, kind, p, state, w, f);
-    let rise = elevations::rises(work, sums, x, y, tri, h, kind, p, state, w, f);
+    elevations::assemble(work, sums, x, y, tri, h, kind, p, state, elevation, winds);
+    let rise = elevations::rises(work, sums, x, y, tri, h, kind, p, state, elevation, winds);
     if rise.number != 0 {
         return rise;
     }
-    velocities::slopes(work, x, y, tri, h, kind, p, state, w, f);
-    velocities::flows(work, sums, x, y, tri, h, kind, p, state, w, f)
+    velocities::slopes(work, x, y, tri, h, kind, p, state, elevation, winds);
+    velocities::flows(work, sums, x, y, tri, h, kind, p, state, elevation, winds)
 }
 
 // Run b of `from` into run a of `to`.
@@ -72,15 +71,17 @@ fn copy_run(to: &mut [f64], n: usize, a: usize, from: &[f64], b: usize)
     slices::copy(&mut to[here..past], &from[its..end]);
 }
 
-// The next state: z, and then z', U' and V' as the work room has them.
-fn publish(next: &mut [f64], n: usize, state: &[f64], work: &[f64])
-    requires { ⌜ (length (now next) ≡ stateRuns * n) × (length (now state) ≡ stateRuns * n) × (length (now work) ≡ workRuns * n) ⌝ }
-    ensures { λ _. ⌜ now (next .exit) ≡ runsOf n (inRun n 1 (now (state .entry)) ∷ inRun n 0 (now (work .entry)) ∷ inRun n 1 (now (work .entry)) ∷ inRun n 2 (now (work .entry)) ∷ []) ⌝ }
+// The next state: z, and then z', U' and V' as the work room has them, and the new winds.
+fn publish(next: &mut [f64], n: usize, state: &[f64], work: &[f64], winds: &[f64])
+    requires { ⌜ (length (now next) ≡ stateRuns * n) × (length (now state) ≡ stateRuns * n) × (length (now work) ≡ workRuns * n) × (length (now winds) ≡ windRuns * n) ⌝ }
+    ensures { λ _. ⌜ now (next .exit) ≡ runsOf n (inRun n 1 (now (state .entry)) ∷ inRun n 0 (now (work .entry)) ∷ inRun n 1 (now (work .entry)) ∷ inRun n 2 (now (work .entry)) ∷ inRun n 0 (now (winds .entry)) ∷ inRun n 1 (now (winds .entry)) ∷ []) ⌝ }
 {
     copy_run(next, n, 0, state, 1);
     copy_run(next, n, 1, work, 0);
     copy_run(next, n, 2, work, 1);
     copy_run(next, n, 3, work, 2);
+    copy_run(next, n, 4, winds, 0);
+    copy_run(next, n, 5, winds, 1);
 }
 
 // Row 13, and the next state where it accepts. The work room is left zero.
@@ -95,27 +96,27 @@ fn work_out(
     kind: &[u8],
     p: Parameters,
     state: &[f64],
-    w: Wind,
-    f: Forcing,
+    elevation: f64,
+    winds: &[f64],
 ) -> Answer
     ghost { Given }
-    requires { λ g. ⌜ given (mesh (now x) (now y) (now tri) (now h) (now kind)) p (now state) w f ≡ g ⌝ }
+    requires { λ g. ⌜ given (mesh (now x) (now y) (now tri) (now h) (now kind)) p (now state) elevation (now winds) ≡ g ⌝ }
     requires { λ g. ⌜ Fits g ⌝ }
-    requires { λ g. ⌜ (length (now next) ≡ stateRuns * count g) × (length (now work) ≡ workRuns * count g) × (length (now sums) ≡ count g) ⌝ }
+    requires { λ g. ⌜ (length (now next) ≡ stateRuns * count g) × (length (now work) ≡ workRuns * count g) × (length (now sums) ≡ count g) × (length (now winds) ≡ windRuns * count g) ⌝ }
     ensures { λ g a. ⌜ (a ≡ row13 g) × (now (next .exit) ≡ cond (eqb (a .number) 0) (nextState g) (now (next .entry))) ⌝ }
     ensures { λ g a. ⌜ (now (work .exit) ≡ zeros (workRuns * count g)) × (now (sums .exit) ≡ table (count g) (λ _. 0)) ⌝ }
 {
-    let answer = solve(work, sums, x, y, tri, h, kind, p, state, w, f);
+    let answer = solve(work, sums, x, y, tri, h, kind, p, state, elevation, winds);
     if answer.number == 0 {
-        publish(next, x.len(), state, work);
+        publish(next, x.len(), state, work, winds);
     }
     slices::clear(work);
     slices::clear_whole(sums);
     answer
 }
 
-// What a call on a run tests, then what else was tested, then row 13 and the next state in `next`. A refusal before 13 leaves all as found; 13 leaves
-// the work room zero.
+// What a call on a run tests, then what else was tested and row 12 of the forcing, then row 13 and the next state in `next`. A refusal before 13 leaves
+// all as found; 13 leaves the work room zero.
 pub fn settle(
     next: &mut [f64],
     work: &mut [f64],
@@ -127,20 +128,32 @@ pub fn settle(
     kind: &[u8],
     p: Parameters,
     state: &[f64],
-    w: Wind,
-    f: Forcing,
+    f: &[f64],
     also: Answer,
 ) -> Answer
-    ensures { λ a. ⌜ settled a (now (next .exit)) (now (work .exit)) (now (sums .exit)) ≡ settleOf (given (mesh (now (x .entry)) (now (y .entry)) (now (tri .entry)) (now (h .entry)) (now (kind .entry))) p (now (state .entry)) w f) also (lentRooms (now (next .entry)) (now (work .entry)) (now (sums .entry))) ⌝ }
+    ensures { λ a. ⌜ settled a (now (next .exit)) (now (work .exit)) (now (sums .exit)) ≡ settleOf (mesh (now (x .entry)) (now (y .entry)) (now (tri .entry)) (now (h .entry)) (now (kind .entry))) p (now (state .entry)) (now (f .entry)) also (lentRooms (now (next .entry)) (now (work .entry)) (now (sums .entry))) ⌝ }
 {
     let n = x.len();
     let rooms = slices::is_runs(next.len(), STATE_RUNS, n)
         & slices::is_runs(work.len(), WORK_RUNS, n)
         & slices::is_runs(sums.len(), 1, n);
     let asked = rows::tested(rooms, 1, 0);
-    let first = rows::first(bounds::run_rows(asked, x, y, tri, h, kind, p, state), also);
+    let first = bounds::forced_rows(asked, x, y, tri, h, kind, p, state, also, f);
     if first.number != 0 {
         return first;
     }
-    work_out(next, work, sums, x, y, tri, h, kind, p, state, w, f)
+    work_out(
+        next,
+        work,
+        sums,
+        x,
+        y,
+        tri,
+        h,
+        kind,
+        p,
+        state,
+        f[0],
+        &f[1..],
+    )
 }

@@ -4,10 +4,8 @@ use super::state;
 use super::sums;
 use geometry::Corners;
 use quantities::Flow;
-use quantities::Forcing;
 use quantities::Parameters;
 use quantities::Sides;
-use quantities::Wind;
 use rows::Answer;
 ghost use mathlib.Core.Path.{_≡_};
 ghost use Prim.Native.Nat.{_*_, _<_};
@@ -21,6 +19,7 @@ ghost use Rattle.velocity.specs.Velocity.{flowOf, pushOf};
 ghost use Rattle.geometry.specs.Private.{nodesOf};
 ghost use Rattle.mesh.specs.Lent.{mesh};
 ghost use Rattle.bounds.specs.State.{stateRuns, nodeOf};
+ghost use Rattle.bounds.specs.Forcing.{windRuns, windAt};
 ghost use Rattle.passes.specs.Equations.{Given, given, count, S};
 ghost use Rattle.passes.specs.Row13.{flowRows};
 ghost use Rattle.passes.specs.Settle.{workRuns};
@@ -62,11 +61,11 @@ pub(crate) fn slopes(
     kind: &[u8],
     p: Parameters,
     state: &[f64],
-    w: Wind,
-    f: Forcing,
+    elevation: f64,
+    winds: &[f64],
 )
     ghost { Given }
-    requires { λ g. ⌜ given (mesh (now x) (now y) (now tri) (now h) (now kind)) p (now state) w f ≡ g ⌝ }
+    requires { λ g. ⌜ given (mesh (now x) (now y) (now tri) (now h) (now kind)) p (now state) elevation (now winds) ≡ g ⌝ }
     requires { λ g. ⌜ Fits g ⌝ }
     requires { λ g. ⌜ now work ≡ riseRoom g ⌝ }
     ensures { λ g _. ⌜ now (work .exit) ≡ slopeRoom g ⌝ }
@@ -89,8 +88,7 @@ fn flow_at(
     kind: &[u8],
     p: Parameters,
     state: &[f64],
-    w: Wind,
-    f: Forcing,
+    winds: &[f64],
     sums: &[u64],
     rise: f64,
     px: f64,
@@ -100,12 +98,13 @@ fn flow_at(
     i: usize,
 ) -> Flow
     requires { ⌜ (i < n) × (length (now h) ≡ n) × (length (now state) ≡ stateRuns * n) ⌝ }
-    requires { ⌜ (length (now kind) ≡ n) × (length (now sums) ≡ n) ⌝ }
-    ensures { λ r. ⌜ r ≡ flowOf (lessIf (p .advection)) p (getD (now (kind .entry)) i 0) (pushOf (nodeOf n (now (h .entry)) (now (state .entry)) i) w f (ofInt binary64 (pos (getD (now (sums .entry)) i 0))) rise px py au av) ⌝ }
+    requires { ⌜ (length (now kind) ≡ n) × (length (now winds) ≡ windRuns * n) × (length (now sums) ≡ n) ⌝ }
+    ensures { λ r. ⌜ r ≡ flowOf (lessIf (p .advection)) p (getD (now (kind .entry)) i 0) (pushOf (nodeOf n (now (h .entry)) (now (state .entry)) i) (windAt n (now (winds .entry)) i) (ofInt binary64 (pos (getD (now (sums .entry)) i 0))) rise px py au av) ⌝ }
 {
     let c = state::node_of(n, h, state, i);
+    let new = state::wind_at(n, winds, i);
     let s = geometry::sum_of(sums[i]);
-    velocity::flow_of(p, kind[i], c, w, f, s, rise, px, py, au, av)
+    velocity::flow_of(p, kind[i], c, new, s, rise, px, py, au, av)
 }
 
 // Row 13 of U' and V', where some node is refused: the first of them.
@@ -135,13 +134,13 @@ pub(crate) fn flows(
     kind: &[u8],
     p: Parameters,
     state: &[f64],
-    w: Wind,
-    f: Forcing,
+    elevation: f64,
+    winds: &[f64],
 ) -> Answer
     ghost { Given }
-    requires { λ g. ⌜ given (mesh (now x) (now y) (now tri) (now h) (now kind)) p (now state) w f ≡ g ⌝ }
+    requires { λ g. ⌜ given (mesh (now x) (now y) (now tri) (now h) (now kind)) p (now state) elevation (now winds) ≡ g ⌝ }
     requires { λ g. ⌜ Fits g ⌝ }
-    requires { λ g. ⌜ (now work ≡ slopeRoom g) × (now sums ≡ table (count g) (S g)) ⌝ }
+    requires { λ g. ⌜ (now work ≡ slopeRoom g) × (now sums ≡ table (count g) (S g)) × (length (now winds) ≡ windRuns * count g) ⌝ }
     ensures { λ g a. ⌜ (a ≡ flowRows g) × (now (work .exit) ≡ flowRoom g) ⌝ }
 {
     let n = x.len();
@@ -152,7 +151,7 @@ pub(crate) fn flows(
         let py = work[2 * n + i];
         let au = work[3 * n + i];
         let av = work[4 * n + i];
-        let v = flow_at(n, h, kind, p, state, w, f, sums, z, px, py, au, av, i);
+        let v = flow_at(n, h, kind, p, state, winds, sums, z, px, py, au, av, i);
         work[1 * n + i] = v.u;
         work[2 * n + i] = v.v;
         all = all & (outcomes::flow_row(v, i).number == 0);

@@ -1,8 +1,9 @@
-// The printing program of document 01: it reads forcing lines from standard input, steps mesh T by each, and prints one save at the end, or only the
-// first refusal. What is printed for an input is `printed` of forcelog's specs. A forcing line has 57 bytes, so 57 are read at a time: forcelog's
-// law `by-pieces` says that this prints the same as cutting the input at its line feeds. A read that fails is no end of input: nothing is printed
-// then, and standard error says why, as it does of a write that fails.
+// The printing program of documents 01 and 02: it reads forcings from standard input, steps mesh T by each, and prints one save at the end, or only the
+// first refusal. What is printed for an input is `printed` of forcelog's specs. A forcing's first two bytes say how many it has, and it is
+// read whole: forcelog's law `by-wholes` says that this prints the same as cutting the input at its line feeds. A read that fails is no end of input:
+// nothing is printed then, and standard error says why, as it does of a write that fails.
 use forcelog::Log;
+use frames::reading;
 use libc::STDIN_FILENO;
 use libc::STDOUT_FILENO;
 use rows::Answer;
@@ -10,31 +11,31 @@ ghost use Prim.Native.Nat.{_≤_};
 ghost use mathlib.Core.Path.{_≡_};
 ghost use lib.ListN.{length};
 ghost use Rattle.io.specs.Counts.{Counts};
-ghost use Rattle.forcelog.specs.Printed.{ending};
+ghost use Rattle.forcelog.specs.Printed.{ending, dueOf};
 ghost use Rattle.forcelog.specs.Private.{Savable};
 
 // The save at the end: it is never refused, so the room is full.
-fn save_text(log: Log) -> [u8; 289]
+fn save_text(log: Log) -> [u8; 442]
     requires { ⌜ Savable log ⌝ }
     ensures { λ r. ⌜ r ≡ ending log ⌝ }
 {
-    let mut text = [0u8; 289];
+    let mut text = [0u8; 442];
     forcelog::end(&mut text, log);
     text
 }
 
-// How many bytes of a piece are there, and whether the read that ended them failed.
+// How many bytes of a text are there, and whether the read that ended them failed.
 struct Got {
     len: usize,
     failed: bool,
 }
 
-// One read into a piece, from its byte `from` on: it adds nothing where the input ends or the read fails.
-fn read_from(piece: &mut [u8], from: usize) -> Got
-    requires { ⌜ from ≤ length (now piece) ⌝ }
-    ensures { λ r. ⌜ (from ≤ r .len) × (r .len ≤ length (now (piece .exit))) ⌝ }
+// One read into a text's bytes `from` to `to`: it adds nothing where the input ends or the read fails.
+fn read_part(text: &mut [u8], from: usize, to: usize) -> Got
+    requires { ⌜ (from ≤ to) × (to ≤ length (now text)) ⌝ }
+    ensures { λ r. ⌜ (from ≤ r .len) × (r .len ≤ to) ⌝ }
 {
-    let rest = &mut piece[from..];
+    let rest = &mut text[from..to];
     let got = libc::read(STDIN_FILENO, rest);
     let more = io::count(got, rest);
     Got {
@@ -43,19 +44,43 @@ fn read_from(piece: &mut [u8], from: usize) -> Got
     }
 }
 
-// Reads until the piece is full, the input ends or a read fails.
-fn read_piece(piece: &mut [u8]) -> Got
-    ensures { λ r. ⌜ Counts (r .len) (now (piece .exit)) ⌝ }
+// Reads on from byte `from` until `to` bytes are there, the input ends or a read fails.
+fn read_to(text: &mut [u8], from: usize, to: usize) -> Got
+    requires { ⌜ (from ≤ to) × (to ≤ length (now text)) ⌝ }
+    ensures { λ r. ⌜ Counts (r .len) (now (text .exit)) ⌝ }
 {
-    let mut len = 0;
-    while len < piece.len() {
-        let got = read_from(piece, len);
+    let mut len = from;
+    while len < to {
+        let got = read_part(text, len, to);
         if got.len == len {
             return got;
         }
         len = got.len;
     }
     Got { len, failed: false }
+}
+
+// How many bytes a forcing has that starts so.
+fn due(text: &[u8]) -> usize
+    ensures { λ r. ⌜ r ≡ dueOf (now (text .entry)) ⌝ }
+{
+    if reading::starts(text, b'1', b'0') {
+        return 57;
+    }
+    148
+}
+
+// Reads a whole forcing: 57 bytes, which every forcing has, and then on to as many as its first two say.
+fn read_whole(text: &mut [u8]) -> Got
+    requires { ⌜ length (now text) ≡ 148 ⌝ }
+    ensures { λ r. ⌜ Counts (r .len) (now (text .exit)) ⌝ }
+{
+    let start = read_to(text, 0, 57);
+    if start.len < 57 {
+        return start;
+    }
+    let to = due(text);
+    read_to(text, 57, to)
 }
 
 fn say_unread() {
@@ -78,19 +103,19 @@ fn print_refusal(answer: Answer) {
 fn main() {
     let mut log = forcelog::cold();
     loop {
-        let mut piece = [0u8; 57];
-        let got = read_piece(&mut piece);
+        let mut text = [0u8; 148];
+        let got = read_whole(&mut text);
         if got.failed {
             say_unread();
             return;
         }
         let n = got.len;
         if n == 0 {
-            let text = save_text(log);
-            print(&text);
+            let save = save_text(log);
+            print(&save);
             return;
         }
-        let took = forcelog::take(&piece[..n], log);
+        let took = forcelog::take(&text[..n], log);
         let answer = took.answer;
         if answer.number != 0 {
             print_refusal(answer);

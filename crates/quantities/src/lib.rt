@@ -18,20 +18,15 @@ pub struct Wind {
     pub y: f64,
 }
 
-// The new open elevation, and the new wind: stress over density.
-pub struct Forcing {
-    pub elevation: f64,
-    pub wx: f64,
-    pub wy: f64,
-}
-
-// What a node lends to a triangle: depth, earlier elevation, present elevation, U, V.
+// What a node lends to a triangle: depth, earlier elevation, present elevation, U, V, and the wind that it holds.
 pub struct Node {
     pub h: f64,
     pub earlier: f64,
     pub z: f64,
     pub u: f64,
     pub v: f64,
+    pub wx: f64,
+    pub wy: f64,
 }
 
 // a, b and D of one triangle.

@@ -1,70 +1,112 @@
 -- Which line of a save is which, and how long they are.
-use Prim.Native.Nat.{ℕ, zero, suc, _+_, _-_, _*_, _<_, _≤_}
-use mathlib.Core.Path.{_≡_, refl, ap, _∙_}
+use Prim.Native.Nat.{ℕ, zero, suc, _+_, _-_, _*_, _≤_}
+use mathlib.Core.Path.{_≡_, refl, sym, ap, _∙_}
 use mathlib.Core.Bool.{Bool, true, false, cond}
-use mathlib.Core.List.{List}
+use mathlib.Core.List.{List, [], _∷_}
+use mathlib.Core.Logic.{⊎-elim}
+use native.Mathlib.Nat.{le-of-suc-le-suc, eq-or-lt-of-le}
 use native.Mathlib.Omega.{arith}
-use borrow.Author.Tests.{lt-ltb, le-ltb, leb-true, leb-false}
-use lib.Dec.{ltb, leb}
-use lib.ListN.{length, length-append}
+use borrow.Author.Tests.{lt-ltb, le-ltb}
+use lib.Dec.{ltb}
+use lib.ListN.{length}
 use lib.Ieee.{Float}
-use Rattle.frames.specs.Frames.{text, digitsOf}
+use Rattle.quantities.specs.declared.Wind.{Wind}
+use Rattle.frames.specs.Frames.{Layout, line, text, laidOut, digitsOf}
+use Rattle.frames.specs.Private.{widthsOf}
+use Rattle.frames.specs.Texts.{due, startOf}
 use Rattle.frames.proofs.FrameLaws.{text-length}
-use Rattle.surge.specs.declared.Clock.{Clock}
-use Rattle.saves.specs.Lines.{nodeLayout, endLayout, head, stateValues, nodeLine, end, due, startOf, saveLength}
-use Rattle.saves.specs.Save.{lineOf, linesTo}
+use Rattle.frames.proofs.TextLaws.{start-next}
+use Rattle.saves.specs.Lines.{Edition, Values, node1, node2, endLayout, edition1, edition2, layoutFrom, layoutAt, past, nodeLine, lineCount, valuesFrom, lineOf, saveLength}
+use Rattle.saves.specs.Save.{Saved, stateValues, stateValues1, values1, values2}
 
 -- ---- which line is a node's, and which the last
-pub node-place : (n j : ℕ) → (j ≡ 0 → ⊥) → j ≤ n → (j ≡ suc (j - 1)) × (ltb (j - 1) n ≡ true)
-node-place n j h l = (omega arith, lt-ltb (j - 1) n (omega arith))
+past-next : (ls : List Layout) (i : ℕ) → past ls (suc i) ≡ suc (past ls i)
+past-next [] i = refl
+past-next (l ∷ ls) i = ap suc (past-next ls i)
 
-pub last-place : (n j : ℕ) → n < j → (j ≡ suc (j - 1)) × (ltb (j - 1) n ≡ false)
-last-place n j l = (omega arith, le-ltb (j - 1) n (omega arith))
-
--- ---- how long they are
-module _ (n e : ℕ) (state : List Float) (k : Clock) where
-  pub line-long : (j : ℕ) → length (text (lineOf n e state k j)) ≡ due n j + 1
-  unfolding lineOf
-  line-long zero = text-length (head n e k)
-  line-long (suc i) = go (ltb i n)
-    where
-      go : (b : Bool) → length (text (cond b (nodeLine i (stateValues n state i)) (end n))) ≡ digitsOf (cond b nodeLayout endLayout .widths) + 1
-      go true = text-length (nodeLine i (stateValues n state i))
-      go false = text-length (end n)
-
-  pub lines-long : (j : ℕ) → length (linesTo n e state k j) ≡ startOf n j
-  unfolding linesTo startOf
-  lines-long zero = refl
-  lines-long (suc j) = length-append (linesTo n e state k j) (text (lineOf n e state k j)) ∙ rw (lines-long j, line-long j)
+pub past-due : (ls : List Layout) (node : Layout) (n i : ℕ) → layoutFrom ls node n (past ls i) ≡ cond (ltb i n) node endLayout
+past-due [] node n i = refl
+past-due (l ∷ ls) node n i = past-due ls node n i
 
 -- ---- where each line starts
-start-node : (n i : ℕ) → i ≤ n → startOf n (suc i) ≡ 57 + 73 * i
+module _ (layout : ℕ → Layout) where
+  start-mono : (j k : ℕ) → j ≤ k → startOf layout j ≤ startOf layout k
+  start-mono j zero h = let e : j ≡ 0 = omega arith in rw e (omega arith)
+  start-mono j (suc k) h = ⊎-elim (λ e. rw e (omega arith)) (λ l. rw (start-next layout k) (omega (arith, start-mono j k (le-of-suc-le-suc l)))) (eq-or-lt-of-le h)
+
+module _ (d : Edition) (n : ℕ) where
+  pub start-node : (i : ℕ) → i ≤ n → startOf (layoutAt d n) (nodeLine d i) ≡ startOf (layoutAt d n) (nodeLine d 0) + (digitsOf (d .node .widths) + 1) * i
+  start-node zero h = omega arith
+  start-node (suc i) h =
+      ap (startOf (layoutAt d n)) (past-next (d .heads) i)
+      ∙ start-next (layoutAt d n) (nodeLine d i)
+      ∙ rw (past-due (d .heads) (d .node) n i, lt-ltb i n (omega arith), start-node i (omega arith)) (omega arith)
+
+  pub start-last : startOf (layoutAt d n) (nodeLine d (suc n)) ≡ startOf (layoutAt d n) (nodeLine d 0) + (digitsOf (d .node .widths) + 1) * n + 13
+  start-last =
+      ap (startOf (layoutAt d n)) (past-next (d .heads) n)
+      ∙ start-next (layoutAt d n) (nodeLine d n)
+      ∙ rw (past-due (d .heads) (d .node) n n, le-ltb n n (omega arith), start-node n (omega arith)) (omega arith)
+
+-- "127+105N bytes"
+pub save-long : (n : ℕ) → startOf (layoutAt edition2 n) (lineCount edition2 n) ≡ saveLength n
 unfolding startOf
-start-node n zero h = refl
-start-node n (suc i) h = rw (start-node n i (omega arith), lt-ltb i n (omega arith)) (omega arith)
-
-pub start-at : (n j : ℕ) → (j ≡ 0 → ⊥) → j ≤ n + 1 → startOf n j ≡ 57 + 73 * (j - 1)
-start-at n j h l = let q : j ≡ suc (j - 1) = omega arith in ap (startOf n) q ∙ start-node n (j - 1) (omega arith)
-
-start-last : (n : ℕ) → startOf n (suc (suc n)) ≡ saveLength n
-unfolding startOf
-start-last n = rw (start-node n n (omega arith), le-ltb n n (omega arith)) (omega arith)
-
--- "70+73N bytes"
-pub save-long : (n : ℕ) → startOf n (n + 2) ≡ saveLength n
-save-long n = ap (startOf n) (omega arith) ∙ start-last n
-
-pub start-none : (n : ℕ) → startOf n 0 ≡ 0
-unfolding startOf
-start-none n = refl
+save-long n =
+    let last : lineCount edition2 n ≡ nodeLine edition2 (suc n) = omega arith in
+    ap (startOf (layoutAt edition2 n)) last ∙ start-last edition2 n ∙ omega arith
 
 -- no line starts past the end
-pub start-below : (n j : ℕ) → j ≤ n + 2 → startOf n j ≤ saveLength n
-start-below n zero h = rw (start-none n) (omega arith)
-start-below n (suc j) h = go (leb j n) refl
+pub start-below : (n j : ℕ) → j ≤ lineCount edition2 n → startOf (layoutAt edition2 n) j ≤ saveLength n
+start-below n j h = rw (← save-long n) (start-mono (layoutAt edition2 n) j (lineCount edition2 n) h)
+
+-- ---- how long they are: a line has as many values as its layout has fields
+pub all-laid : (ws vs : List ℕ) → length vs ≡ length ws → widthsOf (laidOut ws vs) ≡ ws
+all-laid [] vs h = refl
+all-laid (w ∷ ws) [] h = absurd (omega arith)
+all-laid (w ∷ ws) (v ∷ vs) h = ap (λ (l : List ℕ). w ∷ l) (all-laid ws vs (omega arith))
+
+abbrev pub Fitting : Edition → ℕ → Values → Type 0
+Fitting d n v = (j : ℕ) → length (valuesFrom (v .heads) (v .node) n j) ≡ length (layoutAt d n j .widths)
+
+pub line-long : (d : Edition) (n : ℕ) (v : Values) → Fitting d n v → (j : ℕ) → length (text (lineOf d n v j)) ≡ due (layoutAt d n) j + 1
+line-long d n v fit j = text-length (lineOf d n v j) ∙ ap (λ (ws : List ℕ). digitsOf ws + 1) (all-laid (layoutAt d n j .widths) _ (fit j))
+
+pub fit2 : (s : Saved) → Fitting edition2 (s .n) (values2 s)
+fit2 s zero = refl
+fit2 s (suc zero) = refl
+fit2 s (suc (suc i)) = go (ltb i (s .n))
   where
-    go : (b : Bool) → leb j n ≡ b → startOf n (suc j) ≤ saveLength n
-    go true q = rw (start-node n j (leb-true j n q)) (omega (arith, leb-true j n q))
-    go false q =
-        let last : j ≡ suc n = omega (arith, leb-false j n q) in
-        rw (last, start-last n) (omega arith)
+    go : (b : Bool) → length (cond b (stateValues (s .n) (s .state) i) (s .n ∷ [])) ≡ length (cond b node2 endLayout .widths)
+    go true = refl
+    go false = refl
+
+pub fit1 : (n e : ℕ) (state : List Float) (step : ℕ) (w : Wind) → Fitting edition1 n (values1 n e state step w)
+fit1 n e state step w zero = refl
+fit1 n e state step w (suc i) = go (ltb i n)
+  where
+    go : (b : Bool) → length (cond b (stateValues1 n state i) (n ∷ [])) ≡ length (cond b node1 endLayout .widths)
+    go true = refl
+    go false = refl
+
+-- ---- edition 2's node lines and its end line, by their number
+pub node-line : (s : Saved) (j : ℕ) → 2 ≤ j → j ≤ s .n + 1 → line node2 (j - 2 + 2) (stateValues (s .n) (s .state) (j - 2)) ≡ lineOf edition2 (s .n) (values2 s) j
+node-line s j low high =
+    let i = j - 2 in
+    let q : suc (suc i) ≡ j = omega arith in
+    let e : i + 2 ≡ suc (suc i) = omega arith in
+    ap (λ (k : ℕ). line node2 k (stateValues (s .n) (s .state) i)) e
+    ∙ go i (lt-ltb i (s .n) (omega arith))
+    ∙ ap (lineOf edition2 (s .n) (values2 s)) q
+  where
+    go : (i : ℕ) → ltb i (s .n) ≡ true → line node2 (suc (suc i)) (stateValues (s .n) (s .state) i) ≡ lineOf edition2 (s .n) (values2 s) (suc (suc i))
+    go i b = rw b refl
+
+pub end-line : (s : Saved) (j : ℕ) → j ≡ s .n + 2 → line endLayout (s .n + 2) (s .n ∷ []) ≡ lineOf edition2 (s .n) (values2 s) j
+end-line s j h =
+    let e : s .n + 2 ≡ suc (suc (s .n)) = omega arith in
+    ap (λ (k : ℕ). line endLayout k (s .n ∷ [])) e
+    ∙ go (le-ltb (s .n) (s .n) (omega arith))
+    ∙ ap (lineOf edition2 (s .n) (values2 s)) (sym (h ∙ e))
+  where
+    go : ltb (s .n) (s .n) ≡ false → line endLayout (suc (suc (s .n))) (s .n ∷ []) ≡ lineOf edition2 (s .n) (values2 s) (suc (suc (s .n)))
+    go b = rw b refl

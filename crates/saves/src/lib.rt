@@ -8,7 +8,8 @@ ghost use mathlib.Core.Path.{_≡_};
 ghost use Rattle.mesh.specs.Lent.{mesh};
 ghost use Rattle.saves.specs.Save.{saveOut, saveOf};
 
-// Saves a run: what a call on a run tests, the held wind, the text room; then head, nodes and end. The place of an accepted answer is the bytes written.
+// Saves a run, in edition 2: what a call on a run tests, the text room; then head, line 05, nodes and end. The place of an accepted answer is the bytes
+// written.
 pub fn save(
     text: &mut [u8],
     state: &[f64],
@@ -27,13 +28,13 @@ pub fn save(
         return lent;
     }
     let n = x.len();
-    let room = 70 + 73 * n;
+    let room = 127 + 105 * n;
     let fits = rows::tested(room <= text.len(), 24, room);
-    let rest = rows::first(limits::held_wind(clock.wind()), fits);
-    if rest.number != 0 {
-        return rest;
+    if fits.number != 0 {
+        return fits;
     }
-    writing::write(text, n, tri.len() / 3, state, clock);
+    let sum = areas::twice_areas(x, y, tri);
+    writing::write(text, n, tri.len() / 3, sum, p, state, clock);
     Answer {
         number: 0,
         place: room,

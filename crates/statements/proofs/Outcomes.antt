@@ -6,8 +6,8 @@ use Rattle.passes.specs.Settle.{Settled, settled}
 use Rattle.surge.specs.Step.{StepOut, stepOut}
 use Rattle.saves.specs.Save.{SaveOut, saveOut}
 use Rattle.grids.specs.Grid.{grid, ReadOut, readOut}
-use Rattle.forcings.specs.declared.Taken.{Taken}
-use Rattle.capi.specs.Numbers.{clock, forcing, answer, reply, taken}
+use Rattle.forcings.specs.Forcings.{Taken, taken}
+use Rattle.capi.specs.Numbers.{clock, answer, reply}
 use Rattle.statements.specs.Determined.{EachDetermined, EachCallAsksNothing}
 
 -- the one law: two values that equal a third are equal
@@ -37,14 +37,16 @@ each-determined = record {
   limits·parameters-determined = λ κs a x y v w p q. (same p q, refl);
   limits·in-bounds-determined = λ κs a x y v w p q. (same p q, refl);
   limits·may-count-determined = λ κs a x y v w p q. (same p q, refl);
-  limits·held-wind-determined = λ κs a x y v w p q. (same p q, refl);
-  limits·forcing-determined = λ κs a x y v w p q. (same p q, refl);
+  limits·is-calm-determined = λ κs a x y v w p q. (same p q, refl);
+  limits·elevation-determined = λ κs a x y v w p q. (same p q, refl);
   patterns·pattern-of-determined = λ κs a x y v w p q. (same p q, refl);
   patterns·float-of-determined = λ κs a x y v w p q. (same p q, refl);
   frames·digits·tallied-determined = λ κs a x y v w p q. (same p q, refl);
   frames·reading·value-determined = λ κs a x y v w p q. (same p q, refl);
   frames·reading·float-at-determined = λ κs a x y v w p q. (same p q, refl);
   frames·reading·values-determined = λ κs a x y v w p q. (same p q, refl);
+  frames·reading·part-determined = λ κs a x y v w p q. (same p q, refl);
+  frames·reading·starts-determined = λ κs a x y v w p q. (same p q, refl);
   faults·fault-determined = λ κs a x y v w p q. (same p q, refl);
   lines·Line·begin-determined = λ κs a x y v w p q. (same p q, refl);
   lines·Line·append-determined = λ κs a x y v w p q. (same p q, refl);
@@ -59,13 +61,14 @@ each-determined = record {
   mesh·reading·corners-at-determined = λ κs a x y v w p q. (same p q, refl);
   mesh·shape-rows-determined = λ κs a x y v w p q. (same p q, refl);
   legs·leg-rows-determined = λ κs a x y v w p q. (same p q, refl);
+  areas·twice-areas-determined = λ κs a x y v w p q. (same p q, refl);
   nodes·mesh-rows-determined = λ κs a x y v w p q. (same p q, refl);
   nodes·open-rows-determined = λ κs a x y v w p q. (same p q, refl);
   bounds·run-rows-determined = λ κs a x y v w p q. (same p q, refl);
+  bounds·forced-rows-determined = λ κs a x y v w p q. (same p q, refl);
   passes·settle-determined = λ κs a x y v w p q.
       let e : settled x (v .0) (v .1 .0) (v .1 .1 .0) ≡ settled y (w .0) (w .1 .0) (w .1 .1 .0) = same p q in
-      (ap (λ (o : Settled). o .answer) e, λ i. (e i .rooms .next, (e i .rooms .work, (e i .rooms .sums, (tt, (tt, (tt, (tt, (tt, (tt, (tt, (tt, (tt, (tt, tt))))))))))))));
-  surge·Clock·wind-determined = λ κs a x y v w p q. (same p q, refl);
+      (ap (λ (o : Settled). o .answer) e, λ i. (e i .rooms .next, (e i .rooms .work, (e i .rooms .sums, (tt, (tt, (tt, (tt, (tt, (tt, (tt, (tt, (tt, tt)))))))))))));
   surge·open-determined = λ κs a x y v w p q.
       let e : after x (v .0) ≡ after y (w .0) = same p q in
       (ap (λ (o : After). o .reply) e, λ i. (e i .state, (tt, (tt, (tt, (tt, (tt, (tt, tt))))))));
@@ -77,7 +80,9 @@ each-determined = record {
   grids·read-grid-determined = λ κs a x y v w p q.
       let e : readOut x (grid (v .0) (v .1 .0) (v .1 .1 .0) (v .1 .1 .1 .0)) ≡ readOut y (grid (w .0) (w .1 .0) (w .1 .1 .0) (w .1 .1 .1 .0)) = same p q in
       (ap (λ (o : ReadOut). o .answer) e, λ i. (e i .rooms .x, (e i .rooms .y, (e i .rooms .h, (e i .rooms .tri, (tt, tt))))));
-  forcings·read-forcing-determined = λ κs a x y v w p q. (same p q, refl);
+  forcings·read-forcing-determined = λ κs a x y v w p q.
+      let e : taken x (v .0) ≡ taken y (w .0) = same p q in
+      (ap (λ (o : Taken). o .answer) e, λ i. (e i .room, (tt, (tt, tt))));
   saves·save-determined = λ κs a x y v w p q.
       let e : saveOut x (v .0) ≡ saveOut y (w .0) = same p q in
       (ap (λ (o : SaveOut). o .answer) e, λ i. (e i .text, (tt, (tt, (tt, (tt, (tt, (tt, (tt, (tt, tt))))))))));
@@ -85,29 +90,29 @@ each-determined = record {
       let e : after x (v .0) ≡ after y (w .0) = same p q in
       (ap (λ (o : After). o .reply) e, λ i. (e i .state, (tt, (tt, (tt, (tt, (tt, (tt, (tt, (tt, tt))))))))));
   capi·surge-open-determined = λ κs a x y v w p q.
-      let e : after (reply (answer x (v .1 .0) (v .1 .1 .0)) (clock (v .1 .1 .1 .0) (v .1 .1 .1 .1 .0) (v .1 .1 .1 .1 .1 .0))) (v .0) ≡ after (reply (answer y (w .1 .0) (w .1 .1 .0)) (clock (w .1 .1 .1 .0) (w .1 .1 .1 .1 .0) (w .1 .1 .1 .1 .1 .0))) (w .0) = same p q in (
+      let e : after (reply (answer x (v .1 .0) (v .1 .1 .0)) (clock (v .1 .1 .1 .0))) (v .0) ≡ after (reply (answer y (w .1 .0) (w .1 .1 .0)) (clock (w .1 .1 .1 .0))) (w .0) = same p q in (
         ap (λ (o : After). o .reply .answer .number) e,
-        λ i. (e i .state, (e i .reply .answer .place, (e i .reply .answer .value, (e i .reply .clock .step, (e i .reply .clock .wx, (e i .reply .clock .wy, (tt, (tt, (tt, (tt, (tt, (tt, (tt, (tt, (tt, (tt, tt)))))))))))))))),
+        λ i. (e i .state, (e i .reply .answer .place, (e i .reply .answer .value, (e i .reply .clock .step, (tt, (tt, (tt, (tt, (tt, (tt, (tt, (tt, (tt, (tt, tt)))))))))))))),
       );
   capi·surge-step-determined = λ κs a x y v w p q.
-      let e : stepOut (reply (answer x (v .1 .1 .1 .0) (v .1 .1 .1 .1 .0)) (clock (v .1 .1 .1 .1 .1 .0) (v .1 .1 .1 .1 .1 .1 .0) (v .1 .1 .1 .1 .1 .1 .1 .0))) (v .0) (v .1 .0) (v .1 .1 .0) ≡ stepOut (reply (answer y (w .1 .1 .1 .0) (w .1 .1 .1 .1 .0)) (clock (w .1 .1 .1 .1 .1 .0) (w .1 .1 .1 .1 .1 .1 .0) (w .1 .1 .1 .1 .1 .1 .1 .0))) (w .0) (w .1 .0) (w .1 .1 .0) = same p q in (
+      let e : stepOut (reply (answer x (v .1 .1 .1 .0) (v .1 .1 .1 .1 .0)) (clock (v .1 .1 .1 .1 .1 .0))) (v .0) (v .1 .0) (v .1 .1 .0) ≡ stepOut (reply (answer y (w .1 .1 .1 .0) (w .1 .1 .1 .1 .0)) (clock (w .1 .1 .1 .1 .1 .0))) (w .0) (w .1 .0) (w .1 .1 .0) = same p q in (
         ap (λ (o : StepOut). o .reply .answer .number) e,
-        λ i. (e i .rooms .next, (e i .rooms .work, (e i .rooms .sums, (e i .reply .answer .place, (e i .reply .answer .value, (e i .reply .clock .step, (e i .reply .clock .wx, (e i .reply .clock .wy, (tt, (tt, (tt, (tt, (tt, (tt, (tt, (tt, (tt, (tt, (tt, (tt, (tt, (tt, tt)))))))))))))))))))))),
+        λ i. (e i .rooms .next, (e i .rooms .work, (e i .rooms .sums, (e i .reply .answer .place, (e i .reply .answer .value, (e i .reply .clock .step, (tt, (tt, (tt, (tt, (tt, (tt, (tt, (tt, (tt, (tt, (tt, (tt, tt)))))))))))))))))),
       );
   capi·surge-save-determined = λ κs a x y v w p q.
       let e : saveOut (answer x (v .1 .0) (v .1 .1 .0)) (v .0) ≡ saveOut (answer y (w .1 .0) (w .1 .1 .0)) (w .0) = same p q in (
         ap (λ (o : SaveOut). o .answer .number) e,
-        λ i. (e i .text, (e i .answer .place, (e i .answer .value, (tt, (tt, (tt, (tt, (tt, (tt, (tt, (tt, (tt, (tt, (tt, (tt, (tt, (tt, tt))))))))))))))))),
+        λ i. (e i .text, (e i .answer .place, (e i .answer .value, (tt, (tt, (tt, (tt, (tt, (tt, (tt, (tt, (tt, (tt, (tt, (tt, tt))))))))))))))),
       );
   capi·surge-load-determined = λ κs a x y v w p q.
-      let e : after (reply (answer x (v .1 .0) (v .1 .1 .0)) (clock (v .1 .1 .1 .0) (v .1 .1 .1 .1 .0) (v .1 .1 .1 .1 .1 .0))) (v .0) ≡ after (reply (answer y (w .1 .0) (w .1 .1 .0)) (clock (w .1 .1 .1 .0) (w .1 .1 .1 .1 .0) (w .1 .1 .1 .1 .1 .0))) (w .0) = same p q in (
+      let e : after (reply (answer x (v .1 .0) (v .1 .1 .0)) (clock (v .1 .1 .1 .0))) (v .0) ≡ after (reply (answer y (w .1 .0) (w .1 .1 .0)) (clock (w .1 .1 .1 .0))) (w .0) = same p q in (
         ap (λ (o : After). o .reply .answer .number) e,
-        λ i. (e i .state, (e i .reply .answer .place, (e i .reply .answer .value, (e i .reply .clock .step, (e i .reply .clock .wx, (e i .reply .clock .wy, (tt, (tt, (tt, (tt, (tt, (tt, (tt, (tt, (tt, (tt, (tt, tt))))))))))))))))),
+        λ i. (e i .state, (e i .reply .answer .place, (e i .reply .answer .value, (e i .reply .clock .step, (tt, (tt, (tt, (tt, (tt, (tt, (tt, (tt, (tt, (tt, (tt, tt))))))))))))))),
       );
   capi·surge-read-forcing-determined = λ κs a x y v w p q.
-      let e : taken (answer x (v .0) (v .1 .0)) (forcing (v .1 .1 .0) (v .1 .1 .1 .0) (v .1 .1 .1 .1 .0)) ≡ taken (answer y (w .0) (w .1 .0)) (forcing (w .1 .1 .0) (w .1 .1 .1 .0) (w .1 .1 .1 .1 .0)) = same p q in (
+      let e : taken (answer x (v .1 .0) (v .1 .1 .0)) (v .0) ≡ taken (answer y (w .1 .0) (w .1 .1 .0)) (w .0) = same p q in (
         ap (λ (o : Taken). o .answer .number) e,
-        λ i. (e i .answer .place, (e i .answer .value, (e i .forcing .elevation, (e i .forcing .wx, (e i .forcing .wy, (tt, (tt, tt))))))),
+        λ i. (e i .room, (e i .answer .place, (e i .answer .value, (tt, (tt, tt))))),
       );
   capi·surge-read-grid-determined = λ κs a x y v w p q.
       let e : readOut (answer x (v .1 .1 .1 .1 .0) (v .1 .1 .1 .1 .1 .0)) (grid (v .0) (v .1 .0) (v .1 .1 .0) (v .1 .1 .1 .0)) ≡ readOut (answer y (w .1 .1 .1 .1 .0) (w .1 .1 .1 .1 .1 .0)) (grid (w .0) (w .1 .0) (w .1 .1 .0) (w .1 .1 .1 .0)) = same p q in (

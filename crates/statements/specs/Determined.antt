@@ -49,10 +49,10 @@ use Rattle.limits.proofs.in_bounds.Kinds as limits·in-bounds-kinds
 use Rattle.limits.proofs.in_bounds.Reads as limits·in-bounds-reads
 use Rattle.limits.proofs.may_count.Kinds as limits·may-count-kinds
 use Rattle.limits.proofs.may_count.Reads as limits·may-count-reads
-use Rattle.limits.proofs.held_wind.Kinds as limits·held-wind-kinds
-use Rattle.limits.proofs.held_wind.Reads as limits·held-wind-reads
-use Rattle.limits.proofs.forcing.Kinds as limits·forcing-kinds
-use Rattle.limits.proofs.forcing.Reads as limits·forcing-reads
+use Rattle.limits.proofs.is_calm.Kinds as limits·is-calm-kinds
+use Rattle.limits.proofs.is_calm.Reads as limits·is-calm-reads
+use Rattle.limits.proofs.elevation.Kinds as limits·elevation-kinds
+use Rattle.limits.proofs.elevation.Reads as limits·elevation-reads
 use Rattle.patterns.proofs.pattern_of.Kinds as patterns·pattern-of-kinds
 use Rattle.patterns.proofs.pattern_of.Reads as patterns·pattern-of-reads
 use Rattle.patterns.proofs.float_of.Kinds as patterns·float-of-kinds
@@ -65,6 +65,10 @@ use Rattle.frames.proofs.reading.float_at.Kinds as frames·reading·float-at-ki
 use Rattle.frames.proofs.reading.float_at.Reads as frames·reading·float-at-reads
 use Rattle.frames.proofs.reading.values.Kinds as frames·reading·values-kinds
 use Rattle.frames.proofs.reading.values.Reads as frames·reading·values-reads
+use Rattle.frames.proofs.reading.part.Kinds as frames·reading·part-kinds
+use Rattle.frames.proofs.reading.part.Reads as frames·reading·part-reads
+use Rattle.frames.proofs.reading.starts.Kinds as frames·reading·starts-kinds
+use Rattle.frames.proofs.reading.starts.Reads as frames·reading·starts-reads
 use Rattle.faults.proofs.fault.Kinds as faults·fault-kinds
 use Rattle.faults.proofs.fault.Reads as faults·fault-reads
 use Rattle.lines.proofs.Line.begin.Kinds as lines·Line·begin-kinds
@@ -89,16 +93,18 @@ use Rattle.mesh.proofs.shape_rows.Kinds as mesh·shape-rows-kinds
 use Rattle.mesh.proofs.shape_rows.Reads as mesh·shape-rows-reads
 use Rattle.legs.proofs.leg_rows.Kinds as legs·leg-rows-kinds
 use Rattle.legs.proofs.leg_rows.Reads as legs·leg-rows-reads
+use Rattle.areas.proofs.twice_areas.Kinds as areas·twice-areas-kinds
+use Rattle.areas.proofs.twice_areas.Reads as areas·twice-areas-reads
 use Rattle.nodes.proofs.mesh_rows.Kinds as nodes·mesh-rows-kinds
 use Rattle.nodes.proofs.mesh_rows.Reads as nodes·mesh-rows-reads
 use Rattle.nodes.proofs.open_rows.Kinds as nodes·open-rows-kinds
 use Rattle.nodes.proofs.open_rows.Reads as nodes·open-rows-reads
 use Rattle.bounds.proofs.run_rows.Kinds as bounds·run-rows-kinds
 use Rattle.bounds.proofs.run_rows.Reads as bounds·run-rows-reads
+use Rattle.bounds.proofs.forced_rows.Kinds as bounds·forced-rows-kinds
+use Rattle.bounds.proofs.forced_rows.Reads as bounds·forced-rows-reads
 use Rattle.passes.proofs.settle.Kinds as passes·settle-kinds
 use Rattle.passes.proofs.settle.Reads as passes·settle-reads
-use Rattle.surge.proofs.Clock.wind.Kinds as surge·Clock·wind-kinds
-use Rattle.surge.proofs.Clock.wind.Reads as surge·Clock·wind-reads
 use Rattle.surge.proofs.open.Kinds as surge·open-kinds
 use Rattle.surge.proofs.open.Reads as surge·open-reads
 use Rattle.surge.proofs.step.Kinds as surge·step-kinds
@@ -139,6 +145,12 @@ Determined {n} ps r Post =
     (κs : Lfts n) (a : Dens κs ps) (x y : resT r κs .Denot) (v w : Lasts (endedOf n ps r) κs a) →
     Post κs a x (atExit (endedOf n ps r) κs a v) → Post κs a y (atExit (endedOf n ps r) κs a w) → (x ≡ y) × (v ≡ w)
 
+-- the same of a function that hands back a part of a slice that it was lent: of what is seen through it. Where it lies in memory no contract says
+abbrev pub DeterminedSeen : {n : ℕ} (ps : List (PK n)) (r : RK n) → Out n ps r → ((κs : Lfts n) → resT r κs .Denot → List ℕ) → Type 0
+DeterminedSeen {n} ps r Post seen =
+    (κs : Lfts n) (a : Dens κs ps) (x y : resT r κs .Denot) (v w : Lasts (endedOf n ps r) κs a) →
+    Post κs a x (atExit (endedOf n ps r) κs a v) → Post κs a y (atExit (endedOf n ps r) κs a w) → (seen κs x ≡ seen κs y) × (v ≡ w)
+
 pub record EachDetermined : Type 0 where
   pub rows·accept-determined : Determined rows·accept-kinds.ps rows·accept-kinds.r rows·accept-reads.Post
   pub rows·refuse-determined : Determined rows·refuse-kinds.ps rows·refuse-kinds.r rows·refuse-reads.Post
@@ -161,14 +173,16 @@ pub record EachDetermined : Type 0 where
   pub limits·parameters-determined : Determined limits·parameters-kinds.ps limits·parameters-kinds.r limits·parameters-reads.Post
   pub limits·in-bounds-determined : Determined limits·in-bounds-kinds.ps limits·in-bounds-kinds.r limits·in-bounds-reads.Post
   pub limits·may-count-determined : Determined limits·may-count-kinds.ps limits·may-count-kinds.r limits·may-count-reads.Post
-  pub limits·held-wind-determined : Determined limits·held-wind-kinds.ps limits·held-wind-kinds.r limits·held-wind-reads.Post
-  pub limits·forcing-determined : Determined limits·forcing-kinds.ps limits·forcing-kinds.r limits·forcing-reads.Post
+  pub limits·is-calm-determined : Determined limits·is-calm-kinds.ps limits·is-calm-kinds.r limits·is-calm-reads.Post
+  pub limits·elevation-determined : Determined limits·elevation-kinds.ps limits·elevation-kinds.r limits·elevation-reads.Post
   pub patterns·pattern-of-determined : Determined patterns·pattern-of-kinds.ps patterns·pattern-of-kinds.r patterns·pattern-of-reads.Post
   pub patterns·float-of-determined : Determined patterns·float-of-kinds.ps patterns·float-of-kinds.r patterns·float-of-reads.Post
   pub frames·digits·tallied-determined : Determined frames·digits·tallied-kinds.ps frames·digits·tallied-kinds.r frames·digits·tallied-reads.Post
   pub frames·reading·value-determined : Determined frames·reading·value-kinds.ps frames·reading·value-kinds.r frames·reading·value-reads.Post
   pub frames·reading·float-at-determined : Determined frames·reading·float-at-kinds.ps frames·reading·float-at-kinds.r frames·reading·float-at-reads.Post
   pub frames·reading·values-determined : Determined frames·reading·values-kinds.ps frames·reading·values-kinds.r frames·reading·values-reads.Post
+  pub frames·reading·part-determined : DeterminedSeen frames·reading·part-kinds.ps frames·reading·part-kinds.r frames·reading·part-reads.Post (λ κs x. x .now)
+  pub frames·reading·starts-determined : Determined frames·reading·starts-kinds.ps frames·reading·starts-kinds.r frames·reading·starts-reads.Post
   pub faults·fault-determined : Determined faults·fault-kinds.ps faults·fault-kinds.r faults·fault-reads.Post
   pub lines·Line·begin-determined : Determined lines·Line·begin-kinds.ps lines·Line·begin-kinds.r lines·Line·begin-reads.Post
   pub lines·Line·append-determined : Determined lines·Line·append-kinds.ps lines·Line·append-kinds.r lines·Line·append-reads.Post
@@ -181,11 +195,12 @@ pub record EachDetermined : Type 0 where
   pub mesh·reading·corners-at-determined : Determined mesh·reading·corners-at-kinds.ps mesh·reading·corners-at-kinds.r mesh·reading·corners-at-reads.Post
   pub mesh·shape-rows-determined : Determined mesh·shape-rows-kinds.ps mesh·shape-rows-kinds.r mesh·shape-rows-reads.Post
   pub legs·leg-rows-determined : Determined legs·leg-rows-kinds.ps legs·leg-rows-kinds.r legs·leg-rows-reads.Post
+  pub areas·twice-areas-determined : Determined areas·twice-areas-kinds.ps areas·twice-areas-kinds.r areas·twice-areas-reads.Post
   pub nodes·mesh-rows-determined : Determined nodes·mesh-rows-kinds.ps nodes·mesh-rows-kinds.r nodes·mesh-rows-reads.Post
   pub nodes·open-rows-determined : Determined nodes·open-rows-kinds.ps nodes·open-rows-kinds.r nodes·open-rows-reads.Post
   pub bounds·run-rows-determined : Determined bounds·run-rows-kinds.ps bounds·run-rows-kinds.r bounds·run-rows-reads.Post
+  pub bounds·forced-rows-determined : Determined bounds·forced-rows-kinds.ps bounds·forced-rows-kinds.r bounds·forced-rows-reads.Post
   pub passes·settle-determined : Determined passes·settle-kinds.ps passes·settle-kinds.r passes·settle-reads.Post
-  pub surge·Clock·wind-determined : Determined surge·Clock·wind-kinds.ps surge·Clock·wind-kinds.r surge·Clock·wind-reads.Post
   pub surge·open-determined : Determined surge·open-kinds.ps surge·open-kinds.r surge·open-reads.Post
   pub surge·step-determined : Determined surge·step-kinds.ps surge·step-kinds.r surge·step-reads.Post
   pub grids·read-grid-determined : Determined grids·read-grid-kinds.ps grids·read-grid-kinds.r grids·read-grid-reads.Post

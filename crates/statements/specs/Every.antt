@@ -7,6 +7,7 @@ use Rattle.demands.specs.Friction.{SameAtZeroFriction}
 use Rattle.demands.specs.Advection.{OffGivesEarlier}
 use Rattle.demands.specs.RoundTrip.{SavedIsLoaded, SameTextSameRun, LoadedIsSaved}
 use Rattle.demands.specs.Spellings.{EitherCase, ManySpellingsOneForm}
+use Rattle.demands.specs.Editions.{OldSavesLoad, OldBuildsRefuse}
 use Rattle.demands.specs.Demand3.{Demand3AtSurge, AnySaveAtSurge, OpensCold, OwnSavesLoad, HeldRunsSave}
 use Rattle.worked.specs.Computed.{ComputedHolds, LatestHolds}
 use Rattle.worked.specs.Examples.{ExamplesHold}
@@ -27,6 +28,8 @@ pub record EveryStatement : Type 0 where
   pub loaded-is-saved : LoadedIsSaved
   pub either-case : EitherCase
   pub many-spellings-one-form : ManySpellingsOneForm
+  pub old-saves-load : OldSavesLoad
+  pub old-builds-refuse : OldBuildsRefuse
   pub demand3 : Demand3AtSurge
   pub any-save : AnySaveAtSurge
   pub opens-cold : OpensCold

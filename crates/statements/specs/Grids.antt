@@ -6,7 +6,6 @@ use mathlib.Core.Bool.{true}
 use mathlib.Core.List.{List}
 use lib.Ieee.{Float}
 use Rattle.quantities.specs.declared.Parameters.{Parameters}
-use Rattle.quantities.specs.declared.Forcing.{Forcing}
 use Rattle.mesh.specs.Lent.{Mesh}
 use Rattle.surge.specs.Lent.{Run, run}
 use Rattle.surge.specs.Open.{openOf}
@@ -14,6 +13,7 @@ use Rattle.surge.specs.Step.{stepOf}
 use Rattle.passes.specs.Settle.{Rooms}
 use Rattle.grids.specs.Grid.{Grid, grid, gridAnswer, gridOf, withKinds, gridMesh, ReadOut, readOut, readOf}
 use Rattle.capi.specs.Numbers as C
+use Rattle.loads.specs.Storable.{StorableParameters}
 use Rattle.history.specs.History.{Demand3}
 use Rattle.demands.specs.Contracts.{Keeps}
 use Rattle.demands.specs.Demand1.{Accepts, Refuses}
@@ -60,11 +60,11 @@ meshLeft o kind = withKinds (o .rooms) kind
 pub record OnTheMesh (t kind : List ℕ) (p : Parameters) (m : Mesh) : Type 0 where
   pub of-the-text : m ≡ gridMesh t kind
   -- demand 2: a step on it is the step on the mesh of the text
-  pub steps : (s : Run) (f : Forcing) (rooms : Rooms) → stepOf m p s f rooms ≡ stepOf (gridMesh t kind) p s f rooms
+  pub steps : (s : Run) (f : List Float) (rooms : Rooms) → stepOf m p s f rooms ≡ stepOf (gridMesh t kind) p s f rooms
   -- demand 3, from the cold start that opening it hands back
   pub cold : (state : List Float) → accepts (openOf m p state .reply .answer) ≡ true
       → run (openOf m p state .state) (openOf m p state .reply .clock) ≡ surge (gridMesh t kind) p .cold
-  pub demand3 : Demand3 (surge (gridMesh t kind) p)
+  pub demand3 : StorableParameters p → Demand3 (surge (gridMesh t kind) p)
 
 abbrev pub RunsOnMeshesRead : Type 0
 RunsOnMeshesRead = (r : Grid) (t kind : List ℕ) (p : Parameters) → Accepts (readOf r t .answer) → OnTheMesh t kind p (meshLeft (readOf r t) kind)

@@ -1,4 +1,4 @@
--- A cold start can be stepped and saved: it passes rows 10 and 12 on every mesh that its rows accept.
+-- A cold start can be stepped and saved: it passes row 10 on every mesh that its rows accept.
 use Prim.Native.Nat.{ℕ, _+_, _*_, _<_, _≤_}
 use mathlib.Core.Path.{_≡_, refl}
 use mathlib.Core.Bool.{Bool, true, false}
@@ -13,7 +13,7 @@ use lib.Ieee.Order.{round-mono}
 use lib.Ieee.Positive.{positive, le→cross, between}
 use Rattle.rows.specs.declared.Answer.{Answer}
 use Rattle.lists.specs.Runs.{inRun}
-use Rattle.rows.specs.Scan.{accepted, row}
+use Rattle.rows.specs.Scan.{accepted}
 use Rattle.rows.specs.Numbers.{plus0, within, decimal, minus, inSize}
 use Rattle.rows.proofs.ScanLaws.{both-left, both-right}
 use Rattle.lists.proofs.TableLaws.{length-table, getD-table}
@@ -21,13 +21,13 @@ use Rattle.lists.proofs.RunLaws.{in-runs}
 use Rattle.quantities.specs.declared.Parameters.{Parameters}
 use Rattle.quantities.specs.Operations.{_⊕_}
 use Rattle.quantities.specs.Constants.{tenth}
-use Rattle.limits.specs.Limits.{inBounds, row12Held}
+use Rattle.limits.specs.Limits.{isCalm, inBounds}
 use Rattle.mesh.specs.Lent.{Mesh, N}
 use Rattle.nodes.specs.Rows.{meshRows, openRows}
 use Rattle.nodes.proofs.PartLaws.{depth-in, mesh-parts, open-parts, parts-mesh}
 use Rattle.bounds.specs.State.{stateRuns, nodeOf, runRows}
 use Rattle.bounds.proofs.StateLaws.{in-bounds}
-use Rattle.surge.specs.Lent.{coldState, coldClock, windOf}
+use Rattle.surge.specs.Lent.{coldState}
 use Rattle.limits.proofs.BoundLaws.{all-bounded}
 
 -- +0 is within every limit, and a depth of 1 or more is water enough
@@ -63,27 +63,28 @@ zero-small : (inSize 30 plus0 ≡ true) × (inSize 20 plus0 ≡ true)
 unfolding within decimal minus round size span climb units odd trailingZeros le lt eq
 zero-small = (refl, refl)
 
+zero-calm : isCalm (record { x = plus0; y = plus0 }) ≡ true
+unfolding isCalm within decimal minus round size span climb units odd trailingZeros le lt eq
+zero-calm = refl
+
 module _ (m : Mesh) (p : Parameters) (ok : meshRows accepted m p .number ≡ 0) where
   zero-at : (i k : ℕ) → k < stateRuns → i < N m → inRun (N m) k (coldState (N m)) i ≡ plus0
   zero-at i k h l = getD-table (stateRuns * N m) (λ _. plus0) (k * N m + i) nan (in-runs (N m) k stateRuns i h l)
 
   cold-node : (i : ℕ) → i < N m → inBounds (nodeOf (N m) (m .h) (coldState (N m)) i) ≡ true
   cold-node i l =
-      rw (zero-at i 0 (lit< tt) l, zero-at i 1 (lit< tt) l, zero-at i 2 (lit< tt) l, zero-at i 3 (lit< tt) l)
+      rw (zero-at i 0 (lit< tt) l, zero-at i 1 (lit< tt) l, zero-at i 2 (lit< tt) l, zero-at i 3 (lit< tt) l, zero-at i 4 (lit< tt) l, zero-at i 5 (lit< tt) l)
       (all-bounded _ (record {
         earlier = zero-small .0;
         z = zero-small .0;
         column = deep-enough _ (depth-in _ _ _ _ _ (mesh-parts _ m p ok .1) i l);
         u = zero-small .1;
         v = zero-small .1;
+        wind = zero-calm;
       }))
 
   pub cold-rows : runRows accepted m p (coldState (N m)) .number ≡ 0
   cold-rows = in-bounds m p (coldState (N m)) ok (length-table (stateRuns * N m) _) cold-node
-
-pub cold-wind : row12Held (windOf coldClock) .number ≡ 0
-unfolding row12Held row within decimal minus round size span climb units odd trailingZeros le lt eq
-cold-wind = refl
 
 -- ---- opening asks the same rows but for row 6
 pub opened-mesh : (asked : Answer) (m : Mesh) (p : Parameters) → openRows asked m p .number ≡ 0 → meshRows accepted m p .number ≡ 0

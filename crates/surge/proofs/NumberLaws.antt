@@ -1,5 +1,5 @@
 -- Which numbers the answers of a step's rows can have: not 13 before anything is worked out, and then 0 or 13.
-use Prim.Native.Nat.{ℕ, zero, suc}
+use Prim.Native.Nat.{ℕ, zero, suc, _+_}
 use mathlib.Core.Path.{_≡_, refl, subst}
 use mathlib.Core.Bool.{Bool, true, false, not}
 use native.Mathlib.Omega.{arith}
@@ -8,20 +8,22 @@ use Rattle.rows.specs.declared.Answer.{Answer}
 use Rattle.rows.specs.Scan.{row, _then_, scan}
 use Rattle.rows.proofs.ScanLaws.{then-stop, then-next}
 use Rattle.quantities.specs.declared.Parameters.{Parameters}
-use Rattle.quantities.specs.declared.Forcing.{Forcing}
+use mathlib.Core.List.{List}
+use lib.Ieee.{Float}
 use Rattle.outcomes.specs.declared.Outcome.{Outcome}
 use Rattle.outcomes.specs.declared.Outcome.the-variants.{Accepted, Elevation, Column, East, North}
 use Rattle.outcomes.specs.Outcomes.{ofRise, ofEast, ofNorth, answerOf, riseRow, flowRow}
-use Rattle.limits.specs.Limits.{row9, row11, row12Held, row12New}
+use Rattle.limits.specs.Limits.{row9, row11, row12Level, row12Wind}
 use Rattle.mesh.specs.Lent.{Mesh}
 use Rattle.mesh.specs.Rows.{row1, row2, row3, row4, row5, triangleRows, shapeRows}
 use Rattle.nodes.specs.Rows.{row7, row8, nodeRows, meshRows}
 use Rattle.bounds.specs.State.{row10, runRows}
+use Rattle.bounds.specs.Forcing.{row12, forcedRows}
 use Rattle.passes.specs.Equations.{Given, count, node, rise, flowAt}
 use Rattle.passes.specs.Row13.{riseRows, flowRows, row13}
 use Rattle.passes.specs.Settle.{Rooms}
 use Rattle.surge.specs.Lent.{Run}
-use Rattle.surge.specs.Step.{clockRows, stepRows}
+use Rattle.surge.specs.Step.{stepRows}
 
 -- ---- what holds of 0 and of each row's number holds of the answer's
 module _ (P : ℕ → Type 0) (none : P 0) where
@@ -63,12 +65,12 @@ mesh-not asked m p h =
     (more _ _ (all _ _ (λ i. one _ 7 i tt))
     (more _ _ (all _ _ (λ i. one _ 8 i tt)) (more _ _ (one _ 9 0 tt) (more _ _ (one _ 9 1 tt) (more _ _ (one _ 9 2 tt) (one _ 9 3 tt))))))
 
-pub not-13 : (m : Mesh) (p : Parameters) (s : Run) (f : Forcing) (r : Rooms) → stepRows m p s f r .number ≡ 13 → ⊥
-unfolding stepRows clockRows runRows row10 row11 row12Held row12New
+pub not-13 : (m : Mesh) (p : Parameters) (s : Run) (f : List Float) (r : Rooms) → stepRows m p s f r .number ≡ 13 → ⊥
+unfolding stepRows forcedRows runRows row10 row11 row12 row12Level row12Wind
 not-13 m p s f r e =
     let h : Not13 (stepRows m p s f r .number) =
-    more _ _ (more _ _ (mesh-not _ m p (more _ _ (one _ 1 0 tt) (one _ 1 0 tt))) (all _ _ (λ i. one _ 10 i tt)))
-    (more _ _ (one _ 11 0 tt) (more _ _ (one _ 12 0 tt) (more _ _ (one _ 12 1 tt) (more _ _ (one _ 12 2 tt) (one _ 12 3 tt))))) in
+    more _ _ (more _ _ (mesh-not _ m p (more _ _ (more _ _ (one _ 1 0 tt) (one _ 1 0 tt)) (one _ 1 0 tt))) (all _ _ (λ i. one _ 10 i tt)))
+    (more _ _ (one _ 11 0 tt) (more _ _ (one _ 12 1 tt) (all _ _ (λ i. one _ 12 (2 + i) tt)))) in
     subst Not13 e h
 
 -- ---- 0 or 13

@@ -2,24 +2,26 @@
 use mathlib.Core.Path.{_≡_, refl}
 use mathlib.Core.Bool.{Bool, true, false, not}
 use borrow.Author.Tests.{eqb-true, eqb-false, not-true}
+use mathlib.Core.List.{List}
 use lib.Dec.{eqb}
+use lib.Ieee.{Float}
 use Rattle.rows.specs.declared.Answer.{Answer}
-use Rattle.rows.proofs.ScanLaws.{row-passed, then-first, then-rest}
+use Rattle.rows.proofs.ScanLaws.{row-passed}
 use Rattle.quantities.specs.declared.Parameters.{Parameters}
-use Rattle.quantities.specs.declared.Forcing.{Forcing}
 use Rattle.limits.specs.Limits.{row11}
 use Rattle.mesh.specs.Lent.{Mesh}
+use Rattle.bounds.proofs.ForcingLaws.{accepted-forced}
 use Rattle.passes.specs.Row13.{row13}
 use Rattle.passes.specs.Settle.{Rooms, Settled, settlesTo, settleOf}
 use Rattle.surge.specs.declared.Clock.{Clock}
 use Rattle.surge.specs.Lent.{Run, advanced}
-use Rattle.surge.specs.Step.{StepOut, clockRows, givenOf, advance, stepRows, refusedBefore, refusedBy13, wentOn, stepsTo, stepOf}
+use Rattle.surge.specs.Step.{StepOut, givenOf, advance, stepRows, refusedBefore, refusedBy13, wentOn, stepsTo, stepOf}
 
 -- what the passes left, with a clock
 abbrev pub withClock : Clock → Settled → StepOut
 withClock k o = record { reply = record { answer = o .answer; clock = k }; rooms = o .rooms }
 
-module _ (m : Mesh) (p : Parameters) (s : Run) (f : Forcing) (r : Rooms) where
+module _ (m : Mesh) (p : Parameters) (s : Run) (f : List Float) (r : Rooms) where
   -- the answer of what is asked before anything is worked out, and row 13's
   abbrev pub early : Answer
   early = stepRows m p s f r
@@ -64,11 +66,11 @@ module _ (m : Mesh) (p : Parameters) (s : Run) (f : Forcing) (r : Rooms) where
 
   -- ---- made of what the passes leave
   abbrev its : Settled
-  its = settleOf (givenOf m p s f) (clockRows (s .clock) f) r
+  its = settleOf m p (s .state) f (row11 (s .clock .step)) r
 
   pub record Made : Type 0 where
     pub refused : (its .answer .number ≡ 0 → ⊥) → withClock (s .clock) its ≡ stepOf m p s f r
-    pub accepted : its .answer .number ≡ 0 → (early .number ≡ 0) × (withClock (advanced (s .clock) f) its ≡ stepOf m p s f r)
+    pub accepted : its .answer .number ≡ 0 → (early .number ≡ 0) × (withClock (advanced (s .clock)) its ≡ stepOf m p s f r)
 
   pub made : Made
   unfolding settleOf settlesTo stepOf stepsTo stepRows advance
@@ -81,7 +83,7 @@ module _ (m : Mesh) (p : Parameters) (s : Run) (f : Forcing) (r : Rooms) where
 
   -- ---- row 11: where the rows accept, the clock can count on
   pub not-last : early .number ≡ 0 → s .clock .step ≡ 4294967295 → ⊥
-  unfolding stepRows clockRows row11
+  unfolding stepRows row11
   not-last ok =
-      let counts : not (eqb (s .clock .step) 4294967295) ≡ true = row-passed _ 10 0 (then-first _ _ (then-rest _ _ ok)) in
+      let counts : not (eqb (s .clock .step) 4294967295) ≡ true = row-passed _ 10 0 (accepted-forced _ _ _ _ _ _ ok .counts) in
       eqb-false (s .clock .step) 4294967295 (not-true (eqb (s .clock .step) 4294967295) counts)

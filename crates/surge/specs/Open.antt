@@ -10,7 +10,7 @@ use Rattle.nodes.specs.Rows.{openRows}
 use Rattle.bounds.specs.State.{row1State}
 use Rattle.surge.specs.Lent.{coldState, coldClock, After, after}
 
--- the answer: row 1 covers the state's 4N, and row 6 is tested
+-- the answer: row 1 covers the state's 6N, and row 6 is tested
 unfoldable pub openAnswer : Mesh → Parameters → List Float → Answer
 openAnswer m p state = openRows (row1State m state) m p
 

@@ -5,18 +5,15 @@ use Prim.Native.Nat.{ℕ}
 use lib.Dec.{eqb}
 use lib.Ieee.{Float}
 use Rattle.rows.specs.declared.Answer.{Answer}
-use Rattle.rows.specs.Scan.{_then_}
 use Rattle.quantities.specs.declared.Parameters.{Parameters}
-use Rattle.quantities.specs.declared.Forcing.{Forcing}
-use Rattle.limits.specs.Limits.{row11, row12Held, row12New}
+use Rattle.limits.specs.Limits.{row11}
 use Rattle.mesh.specs.Lent.{Mesh, N}
-use Rattle.bounds.specs.State.{runRows}
+use Rattle.bounds.specs.Forcing.{elevationOf, windsOf, forcedRows}
 use Rattle.passes.specs.Equations.{Given, given, nextState}
 use Rattle.passes.specs.Row13.{row13}
 use Rattle.passes.specs.Settle.{Rooms, lentRooms, row1Rooms, cleared}
-use Rattle.surge.specs.declared.Clock.{Clock}
 use Rattle.surge.specs.declared.Reply.{Reply}
-use Rattle.surge.specs.Lent.{Run, windOf, newWind, advanced}
+use Rattle.surge.specs.Lent.{Run, advanced}
 
 pub record StepOut : Type 0 where
   pub reply : Reply
@@ -25,24 +22,20 @@ pub record StepOut : Type 0 where
 abbrev pub stepOut : Reply → List Float → List Float → List ℕ → StepOut
 stepOut s next work sums = record { reply = s; rooms = lentRooms next work sums }
 
--- rows 11 and 12: what a step tests of the clock and the forcing
-unfoldable pub clockRows : Clock → Forcing → Answer
-clockRows k f = row11 (k .step) then row12Held (windOf k) then row12New (f .elevation) (newWind f)
-
-module _ (m : Mesh) (p : Parameters) (s : Run) (f : Forcing) where
+module _ (m : Mesh) (p : Parameters) (s : Run) (f : List Float) where
   -- what the equations read
   abbrev pub givenOf : Given
-  givenOf = given m p (s .state) (windOf (s .clock)) f
+  givenOf = given m p (s .state) (elevationOf f) (windsOf f)
 
   -- ---- the equations alone, with no refusal: the run that they give
   unfoldable pub advance : Run
-  advance = record { state = nextState givenOf; clock = advanced (s .clock) f }
+  advance = record { state = nextState givenOf; clock = advanced (s .clock) }
 
   module _ (r : Rooms) where
     -- ---- the answer
     -- "A step goes on with 10, 11, 12": what is tested before anything is worked out
     unfoldable pub stepRows : Answer
-    stepRows = runRows (row1Rooms r (N m)) m p (s .state) then clockRows (s .clock) f
+    stepRows = forcedRows (row1Rooms r (N m)) m p (s .state) (row11 (s .clock .step)) f
 
     -- ---- what a step leaves
     -- "A refusal leaves state, next state, text and clock as found. Work room is untouched by every refusal but 13"

@@ -1,23 +1,19 @@
 // The storm-surge run of document 01: the calls that are made on it, and what goes into them and comes back.
 use bounds::STATE_RUNS;
 use lists::slices;
-use quantities::Forcing;
 use quantities::Parameters;
-use quantities::Wind;
 use rows::Answer;
 ghost use mathlib.Core.Path.{_≡_};
 ghost use Prim.Native.Nat.{_<_};
 ghost use Rattle.mesh.specs.Lent.{mesh};
 ghost use Rattle.passes.specs.Settle.{lentRooms};
-ghost use Rattle.surge.specs.Lent.{run, coldClock, windOf, advanced, after};
+ghost use Rattle.surge.specs.Lent.{run, coldClock, advanced, after};
 ghost use Rattle.surge.specs.Open.{openOf};
-ghost use Rattle.surge.specs.Step.{clockRows, stepOut, stepOf};
+ghost use Rattle.surge.specs.Step.{stepOut, stepOf};
 
-// The step number and the present wind.
+// The step number.
 pub struct Clock {
     pub step: u32,
-    pub wx: f64,
-    pub wy: f64,
 }
 
 impl Clock {
@@ -25,34 +21,16 @@ impl Clock {
     pub(crate) fn cold() -> Self
         ensures { λ r. ⌜ r ≡ coldClock ⌝ }
     {
-        Clock {
-            step: 0,
-            wx: 0.0,
-            wy: 0.0,
-        }
+        Clock { step: 0 }
     }
 
-    // The present wind.
-    pub fn wind(self) -> Wind
-        ensures { λ r. ⌜ r ≡ windOf self ⌝ }
-    {
-        Wind {
-            x: self.wx,
-            y: self.wy,
-        }
-    }
-
-    // The clock after a step: one step more, and the new wind.
-    pub(crate) fn advanced(self, f: Forcing) -> Self
+    // The clock after a step: one step more.
+    pub(crate) fn advanced(self) -> Self
         requires { ⌜ self .step < 4294967295 ⌝ }
-        ensures { λ r. ⌜ r ≡ advanced self f ⌝ }
+        ensures { λ r. ⌜ r ≡ advanced self ⌝ }
     {
         let step = self.step + 1;
-        Clock {
-            step,
-            wx: f.wx,
-            wy: f.wy,
-        }
+        Clock { step }
     }
 }
 
@@ -85,18 +63,6 @@ pub fn open(
     }
 }
 
-// Rows 11 and 12: what a step tests of the clock and the forcing.
-fn clock_rows(clock: Clock, f: Forcing) -> Answer
-    ensures { λ r. ⌜ r ≡ clockRows clock f ⌝ }
-{
-    let new = Wind { x: f.wx, y: f.wy };
-    let winds = rows::first(
-        limits::held_wind(clock.wind()),
-        limits::forcing(f.elevation, new),
-    );
-    rows::first(limits::may_count(clock.step), winds)
-}
-
 // A step: what is tested of mesh, state, clock and forcing, then row 13 and the next state in `next`. A refusal leaves `next` and the clock as found,
 // and the work room too unless it is 13.
 pub fn step(
@@ -104,6 +70,7 @@ pub fn step(
     work: &mut [f64],
     sums: &mut [u64],
     state: &[f64],
+    f: &[f64],
     x: &[i32],
     y: &[i32],
     tri: &[u16],
@@ -111,18 +78,16 @@ pub fn step(
     kind: &[u8],
     p: Parameters,
     clock: Clock,
-    f: Forcing,
 ) -> Reply
-    ensures { λ r. ⌜ stepOut r (now (next .exit)) (now (work .exit)) (now (sums .exit)) ≡ stepOf (mesh (now (x .entry)) (now (y .entry)) (now (tri .entry)) (now (h .entry)) (now (kind .entry))) p (run (now (state .entry)) clock) f (lentRooms (now (next .entry)) (now (work .entry)) (now (sums .entry))) ⌝ }
+    ensures { λ r. ⌜ stepOut r (now (next .exit)) (now (work .exit)) (now (sums .exit)) ≡ stepOf (mesh (now (x .entry)) (now (y .entry)) (now (tri .entry)) (now (h .entry)) (now (kind .entry))) p (run (now (state .entry)) clock) (now (f .entry)) (lentRooms (now (next .entry)) (now (work .entry)) (now (sums .entry))) ⌝ }
 {
-    let also = clock_rows(clock, f);
-    let w = clock.wind();
-    let answer = passes::settle(next, work, sums, x, y, tri, h, kind, p, state, w, f, also);
+    let also = limits::may_count(clock.step);
+    let answer = passes::settle(next, work, sums, x, y, tri, h, kind, p, state, f, also);
     if answer.number != 0 {
         return Reply { answer, clock };
     }
     Reply {
         answer,
-        clock: clock.advanced(f),
+        clock: clock.advanced(),
     }
 }

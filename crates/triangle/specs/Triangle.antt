@@ -33,9 +33,9 @@ slope v1 v2 v3 c1 c2 c3 = (v1 ⊗ c1 ⊕ v2 ⊗ c2) ⊕ v3 ⊗ c3
 
 -- "The gradients and means of one triangle travel together as one record."
 module _ (n1 n2 n3 : Node) (s : Sides) where
-  open Node n1 using (h as h1, z as z1, u as U1, v as V1)
-  open Node n2 using (h as h2, z as z2, u as U2, v as V2)
-  open Node n3 using (h as h3, z as z3, u as U3, v as V3)
+  open Node n1 using (h as h1, z as z1, u as U1, v as V1, wx as Wx1, wy as Wy1)
+  open Node n2 using (h as h2, z as z2, u as U2, v as V2, wx as Wx2, wy as Wy2)
+  open Node n3 using (h as h3, z as z3, u as U3, v as V3, wx as Wx3, wy as Wy3)
   open Sides s using (a1, a2, a3, b1, b2, b3)
 
   unfoldable pub means : Means
@@ -58,6 +58,9 @@ module _ (n1 n2 n3 : Node) (s : Sides) where
     yu = slope U1 U2 U3 a1 a2 a3;
     xv = slope V1 V2 V3 b1 b2 b3;
     yv = slope V1 V2 V3 a1 a2 a3;
+    -- Document 02, #105: "Jx and Jy use the mean of the three corner winds"
+    wx = mean Wx1 Wx2 Wx3;
+    wy = mean Wy1 Wy2 Wy3;
   }
 
 -- Document 02, #103: "a sum from +0 by ascending triangle of Ub·Xu + Vb·Yu …; Ry likewise with Xv and Yv": what a triangle adds to Au and to Av

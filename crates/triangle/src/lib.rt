@@ -4,7 +4,7 @@ use quantities::Sides;
 ghost use mathlib.Core.Path.{_≡_};
 ghost use Rattle.triangle.specs.Triangle.{mean, slope, means, advection};
 
-// hb, Ub, Vb, Z, Qx, Qy, Gx, Gy, Sx and Sy; Xu, Yu, Xv and Yv.
+// hb, Ub, Vb, Z, Qx, Qy, Gx, Gy, Sx and Sy; Xu, Yu, Xv and Yv; the means of the winds, Wx and Wy.
 pub struct Means {
     pub hb: f64,
     pub ub: f64,
@@ -20,6 +20,8 @@ pub struct Means {
     pub yu: f64,
     pub xv: f64,
     pub yv: f64,
+    pub wx: f64,
+    pub wy: f64,
 }
 
 // What a triangle adds to Au and to Av of its corners.
@@ -62,6 +64,8 @@ pub fn means_of(n1: Node, n2: Node, n3: Node, s: Sides) -> Means
         yu: slope(n1.u, n2.u, n3.u, s.a1, s.a2, s.a3),
         xv: slope(n1.v, n2.v, n3.v, s.b1, s.b2, s.b3),
         yv: slope(n1.v, n2.v, n3.v, s.a1, s.a2, s.a3),
+        wx: mean(n1.wx, n2.wx, n3.wx),
+        wy: mean(n1.wy, n2.wy, n3.wy),
     }
 }
 

@@ -8,7 +8,6 @@ use Rattle.quantities.specs.Operations.{_⊕_, _⊖_, _⊗_, _⊘_, Taking}
 use Rattle.quantities.specs.Constants.{g, one, two}
 use Rattle.quantities.specs.declared.Parameters.{Parameters}
 use Rattle.quantities.specs.declared.Wind.{Wind}
-use Rattle.quantities.specs.declared.Forcing.{Forcing}
 use Rattle.quantities.specs.declared.Node.{Node}
 use Rattle.quantities.specs.declared.Push.{Push}
 use Rattle.quantities.specs.declared.Flow.{Flow}
@@ -84,9 +83,9 @@ ofKind kind v = cond (eqb kind 2) (record { u = plus0; v = plus0 }) v
 unfoldable pub flowOf : Taking → Parameters → ℕ → Push → Flow
 flowOf less run kind x = ofKind kind (flow run x less)
 
--- what they are made from: a node, the present wind and the forcing's new one, S, z', Px and Py, Au and Av
-abbrev pub pushOf : Node → Wind → Forcing → Float → Float → Float → Float → Float → Float → Push
-pushOf c w f s rise px py au av = record {
+-- what they are made from: a node and its new wind, S, z', Px and Py, Au and Av. Document 02, #105: "velocity uses the node's own" wind
+abbrev pub pushOf : Node → Wind → Float → Float → Float → Float → Float → Float → Push
+pushOf c new s rise px py au av = record {
   h = c .h;
   z = c .z;
   rise = rise;
@@ -97,8 +96,8 @@ pushOf c w f s rise px py au av = record {
   au = au;
   av = av;
   s = s;
-  wx = w .x;
-  wy = w .y;
-  «wx_new» = f .wx;
-  «wy_new» = f .wy;
+  wx = c .wx;
+  wy = c .wy;
+  «wx_new» = new .x;
+  «wy_new» = new .y;
 }

@@ -1,6 +1,5 @@
 // The formulas of "Velocity" on single values: the pair U', V' of one node.
 use quantities::Flow;
-use quantities::Forcing;
 use quantities::G;
 use quantities::Node;
 use quantities::Parameters;
@@ -45,13 +44,12 @@ fn flow(run: Parameters, node: Push) -> Flow
     Flow { u, v }
 }
 
-// U' and V' of a node, from its sum S, its z', Px and Py, Au and Av. A held land node's are chosen last, so that the loop over the nodes has no branch.
+// U' and V' of a node, from the wind that it holds and its new one, its sum S, its z', Px and Py, Au and Av. A held land node's are chosen last, so that the loop over the nodes has no branch.
 pub fn flow_of(
     run: Parameters,
     kind: u8,
     c: Node,
-    w: Wind,
-    f: Forcing,
+    new: Wind,
     s: f64,
     rise: f64,
     px: f64,
@@ -59,7 +57,7 @@ pub fn flow_of(
     au: f64,
     av: f64,
 ) -> Flow
-    ensures { λ x. ⌜ x ≡ flowOf (lessIf (run .advection)) run kind (pushOf c w f s rise px py au av) ⌝ }
+    ensures { λ x. ⌜ x ≡ flowOf (lessIf (run .advection)) run kind (pushOf c new s rise px py au av) ⌝ }
 {
     let node = Push {
         h: c.h,
@@ -72,10 +70,10 @@ pub fn flow_of(
         au,
         av,
         s,
-        wx: w.x,
-        wy: w.y,
-        wx_new: f.wx,
-        wy_new: f.wy,
+        wx: c.wx,
+        wy: c.wy,
+        wx_new: new.x,
+        wy_new: new.y,
     };
     let free = flow(run, node);
     let held = kind == 2;

@@ -16,14 +16,19 @@ use Rattle.surge.specs.Step.{StepOut, stepOf, stepOut}
 use Rattle.frames.specs.Frames.{bits}
 use Rattle.saves.specs.Save.{saveOf, wrote}
 use Rattle.loads.specs.Load.{loadOf}
+use Rattle.loads.specs.Storable.{StorableParameters}
 use Rattle.history.specs.History.{Written, Call, step, save, load, Saved, History, begun, latest, after, AllOwn, along}
 use Rattle.history.proofs.Demand3.{latest-here}
 use Rattle.demands.specs.Demand3.{Weather, accepts, itself, saved}
 use Rattle.demands.specs.RoundTrip.{gives}
 use Rattle.worked.specs.Examples.{Outcome, stepped, T, T-parameters, T-rooms}
-use Rattle.worked.specs.Computed.{on-T, east, north, lull, flood, text-room, text, calls, at, end, answer, ComputedHolds}
+use Rattle.worked.specs.Computed.{on-T, decimal-fits, east, north, lull, flood, text-room, text, calls, at, end, answer, ComputedHolds}
 use Rattle.demands.proofs.Demand3Proof.{demand3-at-surge}
 use Rattle.worked.proofs.Computing.{arithmetic, tables, the-rows, the-formulas, the-equations, the-frames, the-calls}
+
+-- T's parameters are binary64
+pub T-storable : StorableParameters T-parameters
+T-storable = record { dt = decimal-fits 1 1; tau = decimal-fits 0 1; k = decimal-fits 0 1; f = decimal-fits 0 1 }
 
 -- ---- the runs in numbers
 abbrev three : Float → List Float
@@ -32,8 +37,8 @@ three v = v ∷ v ∷ v ∷ []
 -- after the first step: U is 1/1024
 abbrev pub first : Run
 first = record {
-  state = three plus0 ++ three plus0 ++ three (fin false 1 (negsuc 9)) ++ three plus0;
-  clock = record { step = 1; wx = fin false 1 (negsuc 5); wy = plus0 };
+  state = three plus0 ++ three plus0 ++ three (fin false 1 (negsuc 9)) ++ three plus0 ++ three (fin false 1 (negsuc 5)) ++ three plus0;
+  clock = record { step = 1 };
 }
 
 abbrev z-second : List Float
@@ -42,19 +47,22 @@ z-second = fin true 1080863910568919 (negsuc 60) ∷ fin false 1080863910568919 
 abbrev u-second : Float
 u-second = fin false 4397566877743685 (negsuc 60)
 
--- after a second step with (0, 0, 0)
+abbrev v-second : Float
+v-second = fin true 6786095976115901 (negsuc 67)
+
+-- after a second step without wind
 abbrev pub lulled : Run
 lulled = record {
-  state = three plus0 ++ z-second ++ three u-second ++ three (fin true 6786095976115901 (negsuc 67));
-  clock = record { step = 2; wx = plus0; wy = plus0 };
+  state = three plus0 ++ z-second ++ three u-second ++ three v-second ++ three plus0 ++ three plus0;
+  clock = record { step = 2 };
 }
 
--- after a second step with (0, 0, 1/64)
+-- after a second step with a wind at node 1 alone
 abbrev turned : Run
 turned = record {
-  state = three plus0 ++ z-second ++ three u-second
-      ++ (fin false 4397830775997139 (negsuc 61) ∷ fin false 8794606020827991 (negsuc 62) ∷ fin false 4397566877743685 (negsuc 61) ∷ []);
-  clock = record { step = 2; wx = plus0; wy = fin false 1 (negsuc 5) };
+  state = three plus0 ++ z-second ++ three u-second ++ (v-second ∷ fin false 8794606020827991 (negsuc 62) ∷ v-second ∷ [])
+      ++ three plus0 ++ (plus0 ∷ fin false 1 (negsuc 5) ∷ plus0 ∷ []);
+  clock = record { step = 2 };
 }
 
 -- a step's outcome where it is accepted: the run is taken up, and the work room is zero as it was
@@ -65,7 +73,7 @@ went r = stepOut (record { answer = accepted; clock = r .clock }) (r .state) (T-
 abbrev pub stepping : Run → Weather → StepOut
 stepping r f = stepOf T T-parameters r (f .forcing) T-rooms
 
-opens : openOf T T-parameters (table 12 (λ _. decimal 7 1)) ≡ gives (on-T .cold .state) (on-T .cold .clock)
+opens : openOf T T-parameters (table 18 (λ _. decimal 7 1)) ≡ gives (on-T .cold .state) (on-T .cold .clock)
 unfolding arithmetic tables the-rows the-calls
 opens = refl
 
@@ -77,7 +85,7 @@ floods : stepping first flood ≡ stepOut (record { answer = refused 12 1; clock
 unfolding arithmetic tables the-rows the-calls
 floods = refl
 
-pub saves : saveOf T T-parameters (first .state) (first .clock) text-room .answer ≡ wrote 289
+pub saves : saveOf T T-parameters (first .state) (first .clock) text-room .answer ≡ wrote 442
 unfolding arithmetic tables the-rows the-calls
 saves = refl
 
@@ -197,7 +205,7 @@ computed-holds = record {
   refused-step = is-2 ∙ sym is-1;
   loaded-run = is-5 ∙ sym is-3;
   path = path-is;
-  held = demand3-at-surge T T-parameters calls own-calls ∙ ap (along on-T) path-is;
+  held = demand3-at-surge T T-parameters T-storable calls own-calls ∙ ap (along on-T) path-is;
   second = ap (λ (h : History on-T). h .held .clock .step) is-6;
   pattern = ap (λ (h : History on-T). bits (getD (h .held .state) 6 nan)) is-6 ∙ pattern-is;
 }

@@ -5,8 +5,8 @@ use mathlib.Core.Bool.{true, cond}
 use mathlib.Core.List.{List, [], _∷_, map}
 use mathlib.Core.Option.{some, Option·getD, IsSome}
 use lib.Dec.{T as Holds, eqb}
-use lib.ListN.{length, take}
-use lib.Ieee.{eq}
+use lib.ListN.{length, take, getD}
+use lib.Ieee.{nan, eq}
 use Rattle.rows.specs.Numbers.{decimal}
 use Rattle.bounds.specs.State.{stateRuns}
 use Rattle.surge.specs.Lent.{Run}
@@ -17,7 +17,7 @@ use Rattle.demands.specs.Demand3.{Weather, accepts, other, loaded, saved}
 use Rattle.worked.specs.Examples.{T, T-parameters, T-rooms}
 use Rattle.worked.specs.Computed.{on-T, east, lull, high, text-room, cold-text, east-text, sevens, twice, LatestHolds}
 use Rattle.demands.proofs.Demand3Proof.{demand3-at-surge, any-save-at-surge, own-saves-load}
-use Rattle.worked.proofs.ComputedProof.{first, lulled, went, stepping, to-first, to-lulled, saves, having, to, is-1}
+use Rattle.worked.proofs.ComputedProof.{T-storable, first, lulled, went, stepping, to-first, to-lulled, saves, having, to, is-1}
 use Rattle.worked.proofs.Computing.{arithmetic, tables, the-rows, the-formulas, the-equations, the-calls}
 
 -- ---- the calls
@@ -25,7 +25,7 @@ to-high : stepping (on-T .cold) high ≡ went first
 unfolding arithmetic tables the-rows the-formulas the-equations the-calls
 to-high = refl
 
-cold-saves : saveOf T T-parameters (on-T .cold .state) (on-T .cold .clock) text-room .answer ≡ wrote 289
+cold-saves : saveOf T T-parameters (on-T .cold .state) (on-T .cold .clock) text-room .answer ≡ wrote 442
 unfolding arithmetic tables the-rows the-calls
 cold-saves = refl
 
@@ -45,12 +45,12 @@ sevens-long = refl
 gives-cold : (q : Run) → loaded T T-parameters q cold-text (other sevens) ≡ record { accepted = true; held = on-T .cold }
 gives-cold q =
     ap (λ (w : Written). loaded T T-parameters q (w .text) (other sevens)) (sym cold-written)
-    ∙ own-saves-load T T-parameters [] text-room q (other sevens) (ap (λ (w : Written). w .accepted) cold-written) sevens-long
+    ∙ own-saves-load T T-parameters T-storable [] text-room q (other sevens) (ap (λ (w : Written). w .accepted) cold-written) sevens-long
 
 gives-first : (q : Run) → loaded T T-parameters q east-text (other sevens) ≡ record { accepted = true; held = first }
 unfolding east-text
 gives-first q =
-    own-saves-load T T-parameters (step east T-rooms ∷ []) text-room q (other sevens)
+    own-saves-load T T-parameters T-storable (step east T-rooms ∷ []) text-room q (other sevens)
     (ap (λ (h : History on-T). saved T T-parameters (h .held) text-room .accepted) is-1 ∙ ap (λ (w : Written). w .accepted) east-written) sevens-long
     ∙ ap (λ (h : History on-T). record { accepted = true; held = h .held }) is-1
 
@@ -136,7 +136,7 @@ path-is = ap (λ (h : History on-T). h .path) is-end
 -- the elevations of the two forcings are 1 and 0
 two-forcings : high ≡ east → ⊥
 unfolding arithmetic
-two-forcings e = subst (λ (w : Weather). Holds (eq (w .forcing .elevation) (decimal 1 1))) e tt
+two-forcings e = subst (λ (w : Weather). Holds (eq (getD (w .forcing) 0 nan) (decimal 1 1))) e tt
 
 pub latest-holds : LatestHolds
 latest-holds = record {
@@ -145,8 +145,8 @@ latest-holds = record {
   paths = ap (λ (h : History on-T). map (λ (s : Saved on-T). s .path) (h .saved)) is-end;
   two-paths = two-forcings;
   path = path-is;
-  held = demand3-at-surge T T-parameters twice own-twice ∙ ap (along on-T) path-is;
-  same = any-save-at-surge T T-parameters twice own-twice 0 1 (entry high) (entry east) (first-entries .0) (first-entries .1) refl;
+  held = demand3-at-surge T T-parameters T-storable twice own-twice ∙ ap (along on-T) path-is;
+  same = any-save-at-surge T T-parameters T-storable twice own-twice 0 1 (entry high) (entry east) (first-entries .0) (first-entries .1) refl;
 }
   where
     first-entries : (nth on-T 0 (history on-T twice .saved) ≡ some (entry high)) × (nth on-T 1 (history on-T twice .saved) ≡ some (entry east))

@@ -1,13 +1,13 @@
 -- Two sequences of calls on mesh T, worked out call by call in the words of demand 3, so that what is said there of every sequence is seen to be said of one
 -- that steps, is refused a step, saves, steps, loads what it saved, and steps again; and of one that saves the same text twice, at different paths.
-use Prim.Native.Nat.{ℕ}
+use Prim.Native.Nat.{ℕ, zero, suc}
 use mathlib.Core.Path.{_≡_}
 use mathlib.Core.Bool.{false}
 use mathlib.Core.List.{List, [], _∷_, map}
 use lib.Dec.{T as Holds}
 use lib.ListN.{replicate, take, getD}
 use lib.Ieee.{Float, binary64, fits, nan}
-use lib.Ieee.Fits.{round-fits}
+use lib.Ieee.Fits.{nan-fits, round-fits}
 use Rattle.rows.specs.declared.Answer.{Answer}
 use Rattle.lists.specs.Table.{table}
 use Rattle.rows.specs.Scan.{accepted, refused}
@@ -33,32 +33,40 @@ pub decimal-fits : (n d : ℕ) → Holds (fits binary64 (decimal n d))
 unfolding decimal
 decimal-fits n d = round-fits binary64 false n d
 
--- "A forcing is the new open elevation, then new wind Wx', Wy'": the elevation in whole metres, and the wind in 64ths
-abbrev pub weather : ℕ → ℕ → ℕ → Weather
-weather z x y = record {
-  forcing = record { elevation = decimal z 1; wx = decimal x 64; wy = decimal y 64 };
-  elevation = decimal-fits z 1;
-  wx = decimal-fits x 64;
-  wy = decimal-fits y 64;
-}
+-- a forcing of T: the elevation in whole metres, then Wx' and Wy' of its three nodes in 64ths
+abbrev pub forcing-of : ℕ → List ℕ → List Float
+forcing-of z winds = decimal z 1 ∷ map (λ (w : ℕ). decimal w 64) winds
 
--- (0, 1/64, 0), (0, 0, 1/64), (0, 0, 0), and one whose elevation is beyond 30
+-- and so is each of these
+pub winds-fit : (winds : List ℕ) (j : ℕ) → Holds (fits binary64 (getD (map (λ (w : ℕ). decimal w 64) winds) j nan))
+winds-fit [] j = nan-fits binary64
+winds-fit (w ∷ winds) zero = decimal-fits w 64
+winds-fit (w ∷ winds) (suc j) = winds-fit winds j
+
+pub forcing-fits : (z : ℕ) (winds : List ℕ) (j : ℕ) → Holds (fits binary64 (getD (forcing-of z winds) j nan))
+forcing-fits z winds zero = decimal-fits z 1
+forcing-fits z winds (suc j) = winds-fit winds j
+
+abbrev pub weather : ℕ → List ℕ → Weather
+weather z winds = record { forcing = forcing-of z winds; values = λ j _. forcing-fits z winds j }
+
+-- a wind of 1/64 to the east at every node, one to the north at node 1 alone, none, and an elevation beyond 30
 abbrev pub east : Weather
-east = weather 0 1 0
+east = weather 0 (1 ∷ 1 ∷ 1 ∷ 0 ∷ 0 ∷ 0 ∷ [])
 
 abbrev pub north : Weather
-north = weather 0 0 1
+north = weather 0 (0 ∷ 0 ∷ 0 ∷ 0 ∷ 1 ∷ 0 ∷ [])
 
 abbrev pub lull : Weather
-lull = weather 0 0 0
+lull = weather 0 (replicate 6 0)
 
 abbrev pub flood : Weather
-flood = weather 31 0 0
+flood = weather 31 (replicate 6 0)
 
 -- ---- the calls
--- a room of 300 bytes, and the text that a save of the run held after the first two calls writes to it
+-- a room of 450 bytes, and the text that a save of the run held after the first two calls writes to it
 abbrev pub text-room : List ℕ
-text-room = replicate 300 0
+text-room = replicate 450 0
 
 unfoldable pub text : List ℕ
 text = saved T T-parameters (history on-T (step east T-rooms ∷ step flood T-rooms ∷ []) .held) text-room .text
@@ -76,8 +84,8 @@ computed =
     line (step east T-rooms) (stepped accepted 1)
     -- an elevation of 31 is refused
     ∷ line (step flood T-rooms) (stepped (refused 12 1) 1)
-    -- 289 bytes are written
-    ∷ line (save text-room) (stepped (wrote 289) 1)
+    -- 442 bytes are written
+    ∷ line (save text-room) (stepped (wrote 442) 1)
     ∷ line (step lull T-rooms) (stepped accepted 2)
     -- back to the step number of the save
     ∷ line (load text itself) (stepped accepted 1)
@@ -106,8 +114,8 @@ answers a (c ∷ cs) = let b = after on-T a c in stepped (answer (a .held) c) (b
 
 -- ---- the statement
 pub record ComputedHolds : Type 0 where
-  -- opening T, over twelve sevens, is accepted and hands back the cold run, from which demand 3 begins
-  pub opens : openOf T T-parameters (table 12 (λ _. decimal 7 1)) ≡ gives (on-T .cold .state) (on-T .cold .clock)
+  -- opening T, over eighteen sevens, is accepted and hands back the cold run, from which demand 3 begins
+  pub opens : openOf T T-parameters (table 18 (λ _. decimal 7 1)) ≡ gives (on-T .cold .state) (on-T .cold .clock)
   -- demand 3's premise holds of the calls: the text that is loaded was saved before, and is not altered
   pub own : AllOwn on-T (begun on-T) calls
   -- each call answers what stands beside it
@@ -127,18 +135,18 @@ pub record ComputedHolds : Type 0 where
 -- ---- one text, saved twice at different paths
 -- T has no open node, so that an elevation of 1 gives the run that one of 0 gives, along another path
 abbrev pub high : Weather
-high = weather 1 1 0
+high = weather 1 (1 ∷ 1 ∷ 1 ∷ 0 ∷ 0 ∷ 0 ∷ [])
 
--- the texts of the cold run, and of the run after (0, 1/64, 0)
+-- the texts of the cold run, and of the run after the first step
 unfoldable pub cold-text : List ℕ
 cold-text = saved T T-parameters (on-T .cold) text-room .text
 
 unfoldable pub east-text : List ℕ
 east-text = saved T T-parameters (history on-T (step east T-rooms ∷ []) .held) text-room .text
 
--- another slice of 4N than the state held, with sevens in it
+-- another slice of 6N than the state held, with sevens in it
 abbrev pub sevens : List Float
-sevens = table 12 (λ _. decimal 7 1)
+sevens = table 18 (λ _. decimal 7 1)
 
 abbrev pub twice : List (Call on-T)
 twice =

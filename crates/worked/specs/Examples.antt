@@ -1,4 +1,5 @@
--- Document 01, "Examples": those marked P, as one table. Each entry has what the definitions give beside what the document says.
+-- Document 01, "Examples": those marked P, as one table. Each entry has what the definitions give beside what the document says. An entry on a save says
+-- of which edition it is: document 01's are of edition 1, which is still read, and document 02, #105, has 442 at 12, of edition 2.
 use Prim.Native.Nat.{ℕ, _%_}
 use mathlib.Core.Path.{_≡_}
 use mathlib.Core.Bool.{false}
@@ -12,7 +13,8 @@ use Rattle.rows.specs.Scan.{accepted, refused}
 use Rattle.quantities.specs.declared.Parameters.{Parameters}
 use Rattle.geometry.specs.declared.WholeSides.{WholeSides}
 use Rattle.frames.specs.Bytes.{bytes, sum}
-use Rattle.frames.specs.Frames.{text}
+use Rattle.frames.specs.Frames.{Frame, text}
+use Rattle.frames.specs.Texts.{linesTo}
 use Rattle.mesh.specs.Lent.{Mesh, mesh, N, corners}
 use Rattle.surge.specs.Lent.{run, coldState, coldClock}
 use Rattle.mesh.specs.Geometry.{sides}
@@ -20,10 +22,9 @@ use Rattle.geometry.specs.Geometry.{D}
 use Rattle.surge.specs.Open.{openAnswer}
 use Rattle.surge.specs.Step.{stepOf}
 use Rattle.passes.specs.Settle.{Rooms, lentRooms}
-use Rattle.saves.specs.Lines.{head, end}
-use Rattle.saves.specs.Save.{linesTo, saveText}
+use Rattle.saves.specs.Lines.{edition1, edition2, lineOf}
+use Rattle.saves.specs.Save.{savedOf, values1, values2, saveText, saveText1}
 use Rattle.loads.specs.Load.{loadAnswer}
-use Rattle.forcings.specs.Forcings.{still}
 use Rattle.forcelog.specs.Empty.{headWith, endWith}
 
 -- what an example speaks of: the a, b and D of a triangle, the whole answer of a call (number, place and value), a count, an answer with the
@@ -57,26 +58,39 @@ T-y = pos 0 ∷ pos 0 ∷ pos 100 ∷ []
 abbrev pub T : Mesh
 T = like-T (T-x 100) T-y (0 ∷ 1 ∷ 2 ∷ [])
 
--- T's next state and work room: "4N", "3N binary64 and N 64-bit unsigned", which "grows by 2N binary64"
+-- T's next state and work room: "6N", "3N binary64 and N 64-bit unsigned", which "grows by 2N binary64"
 abbrev pub T-rooms : Rooms
-T-rooms = lentRooms (zeros 12) (zeros 15) (table 3 (λ _. 0))
+T-rooms = lentRooms (zeros 18) (zeros 15) (table 3 (λ _. 0))
 
 abbrev pub geometry : Mesh → Outcome
 geometry m = let s = sides (m .x) (m .y) (corners (m .tri) 0) in triangle s (D s)
 
--- what opening a mesh answers, with a state of 4N
+-- what opening a mesh answers, with a state of 6N
 abbrev pub opening : Mesh → Outcome
 opening m = answer (openAnswer m T-parameters (coldState (N m)))
 
--- what loading a text on T answers, with a state of 4N
+-- what loading a text on T answers, with a state of 6N
 abbrev pub loading : List ℕ → Outcome
 loading t = answer (loadAnswer T T-parameters t (coldState 3))
 
--- a whole step on T, from the cold state with the clock at this step number, with a forcing of three +0
+-- a whole step on T, from the cold state with the clock at this step number, with a forcing of seven +0
 abbrev pub stepping : ℕ → Outcome
 stepping number =
-    let o = stepOf T T-parameters (run (coldState 3) (record { step = number; wx = plus0; wy = plus0 })) still T-rooms in
+    let o = stepOf T T-parameters (run (coldState 3) (record { step = number })) (zeros 7) T-rooms in
     stepped (o .reply .answer) (o .reply .clock .step)
+
+-- line j of a cold save of T, its first j lines, and the whole, in each edition
+abbrev pub old-line : ℕ → Frame
+old-line = lineOf edition1 3 (values1 3 1 (coldState 3) 0 (record { x = plus0; y = plus0 }))
+
+abbrev pub old-text : List ℕ
+old-text = saveText1 3 1 (coldState 3) 0 (record { x = plus0; y = plus0 })
+
+abbrev pub new-line : ℕ → Frame
+new-line = lineOf edition2 3 (values2 (savedOf T T-parameters (coldState 3) coldClock))
+
+abbrev pub new-text : List ℕ
+new-text = saveText (savedOf T T-parameters (coldState 3) coldClock)
 
 abbrev pub example : Outcome → Outcome → Example
 example g s = record { gives = g; says = s }
@@ -101,25 +115,28 @@ examples =
     ∷ example (opening (like-T (T-x 100) T-y (0 ∷ 1 ∷ 2 ∷ 0 ∷ 1 ∷ 2 ∷ []))) (answer (refused 6 1))
     -- 7. "N 4 with triangle 0 1 2: 7, place 3."
     ∷ example (opening (like-T (pos 0 ∷ pos 100 ∷ pos 0 ∷ pos 7 ∷ []) (pos 0 ∷ pos 0 ∷ pos 100 ∷ pos 7 ∷ []) (0 ∷ 1 ∷ 2 ∷ []))) (answer (refused 7 3))
-    -- the head and the end of a cold save of T are those shown
-    ∷ example (characters (text (head 3 1 coldClock))) (characters (headWith 70 66))
-    ∷ example (characters (text (end 3))) (characters (endWith 52 54))
-    -- 8. "head above sums to 0; with FA it is 21."
+    -- edition 1: the head and the end of a cold save of T are those shown
+    ∷ example (characters (text (old-line 0))) (characters (headWith 70 66))
+    ∷ example (characters (text (old-line 4))) (characters (endWith 52 54))
+    -- 8, edition 1. "head above sums to 0; with FA it is 21."
     ∷ example (count (sum (bytes (headWith 70 66)) % 256)) (count 0)
     ∷ example (loading (headWith 70 65)) (answer (refused 21 0))
-    -- 9. "lower-case `fb`: 20." Document 02, #104: "01's example 9 becomes an accepted case." With `fa` it is 21, as 8, and with `fg` 20
-    ∷ example (loading (headWith 102 98 ++ drop 57 (saveText 3 1 (coldState 3) coldClock))) (answer accepted)
+    -- 9, edition 1. "lower-case `fb`: 20." Document 02, #104: "01's example 9 becomes an accepted case." With `fa` it is 21, as 8, and with `fg` 20
+    ∷ example (loading (headWith 102 98 ++ drop 57 old-text)) (answer accepted)
     ∷ example (loading (headWith 102 97)) (answer (refused 21 0))
     ∷ example (loading (headWith 102 103)) (answer (refused 20 0))
-    -- 10. "end line with sequence 5 and check F5: 22."
-    ∷ example (loading (linesTo 3 1 (coldState 3) coldClock 4 ++ endWith 53 53)) (answer (refused 22 4))
-    -- with sequence 4 and check F6 it is accepted
-    ∷ example (loading (linesTo 3 1 (coldState 3) coldClock 4 ++ endWith 52 54)) (answer accepted)
+    -- 10, edition 1. "end line with sequence 5 and check F5: 22." With sequence 4 and check F6 it is accepted
+    ∷ example (loading (linesTo old-line 4 ++ endWith 53 53)) (answer (refused 22 4))
+    ∷ example (loading (linesTo old-line 4 ++ endWith 52 54)) (answer accepted)
+    -- 10, edition 2: there sequence 5 and check F5 are right, and sequence 4 and check F6 the 22
+    ∷ example (loading (linesTo new-line 5 ++ endWith 53 53)) (answer accepted)
+    ∷ example (loading (linesTo new-line 5 ++ endWith 52 54)) (answer (refused 22 5))
     -- 11. "step 4,294,967,294 may step, the next may not."
     ∷ example (stepping 4294967294) (stepped accepted 4294967295)
     ∷ example (stepping 4294967295) (stepped (refused 11 0) 4294967295)
-    -- 12. "save length 289 at N 3."
-    ∷ example (count (length (saveText 3 1 (coldState 3) coldClock))) (count 289)
+    -- 12, edition 1. "save length 289 at N 3." Edition 2: "01's example 12 becomes 442"
+    ∷ example (count (length old-text)) (count 289)
+    ∷ example (count (length new-text)) (count 442)
     ∷ []
 
 -- the one statement: what the definitions give is what the document says

@@ -1,9 +1,11 @@
 //! Misreadings of request #104: what a line or a text would have given by them.
 
-use super::{has_upper, is_lower, of_clock, of_forcing};
+use super::{has_upper, is_lower};
 use crate::coverage::advection::patterns;
-use crate::coverage::layouts::lines_of;
-use crate::frames::{byte_of, read_forcing, two_digits};
+use crate::coverage::forcings::nodes_of;
+use crate::coverage::layouts::{of_forcing, of_save};
+use crate::forcings::read_forcing;
+use crate::frames::{byte_of, two_digits};
 use crate::saves::load;
 use crate::script::{Call, Called, Script};
 use std::ops::Range;
@@ -104,37 +106,40 @@ type Outcome = (u32, usize, Vec<u64>);
 
 /// What a `read` or a `load` gives where its line or text is this.
 fn outcome(script: &Script, called: Called, bytes: &[u8]) -> Outcome {
-    let (answer, patterns) = if called.call == Call::Read {
-        let (answer, forcing) = read_forcing(bytes, called.expected);
-        (answer, of_forcing(forcing).to_vec())
-    } else {
-        let (x, y, tri) = (&script.x.0, &script.y.0, &script.tri.0);
-        let (h, kind, p) = (&script.h.0, &script.kind.0, script.p);
-        let mut state = script.state.0.clone();
-        let (answer, clock) = load(&mut state, bytes, x, y, tri, h, kind, p, called.clock);
-        (
-            answer,
-            [patterns(&state), of_clock(clock).to_vec()].concat(),
-        )
-    };
-    (answer.number, answer.place, patterns)
+    if called.call == Call::Read {
+        let mut room = script.forcing.0.clone();
+        let answer = read_forcing(&mut room, bytes, called.expected);
+        return (answer.number, answer.place, patterns(&room));
+    }
+    let (x, y, tri) = (&script.x.0, &script.y.0, &script.tri.0);
+    let (h, kind, p) = (&script.h.0, &script.kind.0, script.p);
+    let mut state = script.state.0.clone();
+    let (answer, clock) = load(&mut state, bytes, x, y, tri, h, kind, p, called.clock);
+    let mut all = patterns(&state);
+    all.push(clock.step.into());
+    (answer.number, answer.place, all)
 }
 
 /// The misreadings that would have given something else.
 pub(crate) fn not_by(script: &Script, called: Called) -> Vec<String> {
-    let (n, line) = (script.x.0.len(), &script.line.0);
     let (bytes, lines) = match called.call {
-        Call::Read => (line, vec![&line[..]]),
+        Call::Read => {
+            let lines = &script.lines.0;
+            (lines, of_forcing(lines, nodes_of(script)))
+        }
         _ => {
-            let lines = lines_of(&script.text.0, n);
-            (&script.text.0, lines.iter().map(|line| line.1).collect())
+            let text = &script.text.0;
+            (text, of_save(text, script.x.0.len()))
         }
     };
     let found = outcome(script, called, bytes);
-    let after: usize = lines.iter().map(|line| line.len()).sum();
+    let after: usize = lines.iter().map(|(_, line)| line.len()).sum();
     let mut met = Vec::new();
     for (name, misreading) in OF_DIGITS.iter().chain(&OF_NO_DIGITS) {
-        let mut misread: Vec<u8> = lines.iter().flat_map(|line| misreading(line)).collect();
+        let mut misread: Vec<u8> = lines
+            .iter()
+            .flat_map(|(_, line)| misreading(line))
+            .collect();
         misread.extend(&bytes[after..]);
         if misread != *bytes && outcome(script, called, &misread) != found {
             met.push(format!("not {name}"));

@@ -5,7 +5,7 @@ use Rattle.capi.proofs.surge_load.Tie as tie
 
 returns : tie.Need-returns
 returns c =
-    let l = c .before .before .before .before .before .before .before .before in
+    let l = c .before .before .before .before .before .before in
     after-handed _ _ (c .hand-back .ensures) _ _ (rw (l .load .ensures, l .before .before .before .parameters .ensures))
 
 pub surge-load-spec : {M : Type 1} → statement M

@@ -5,7 +5,7 @@ use Rattle.capi.proofs.surge_open.Tie as tie
 
 returns : tie.Need-returns
 returns c =
-    let o = c .before .before .before .before .before .before .before .before in
+    let o = c .before .before .before .before .before .before in
     after-handed _ _ (c .hand-back .ensures) _ _ (rw (o .open .ensures, o .before .before .parameters .ensures))
 
 pub surge-open-spec : {M : Type 1} → statement M

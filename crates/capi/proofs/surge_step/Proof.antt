@@ -5,7 +5,7 @@ use Rattle.capi.proofs.surge_step.Tie as tie
 
 returns : tie.Need-returns
 returns c =
-    let s = c .before .before .before .before .before .before .before .before .before .before .before .before in
+    let s = c .before .before .before .before .before .before .before .before .before .before in
     step-handed _ _ (c .hand-back .ensures) _ _ _ _ (rw (s .step .ensures, s .before .before .before .before .before .parameters .ensures))
 
 pub surge-step-spec : {M : Type 1} → statement M

@@ -8,12 +8,14 @@ use Rattle.limits.proofs.in_bounds.Tie as tie
 returns : tie.Need-returns
 unfolding inBounds decimal minus round ofBits neg
 returns c =
+    let v = c .before in
     rw (
-      c .in-range4 .ensures,
-      c .before .in-range3 .ensures,
-      c .before .before .before .in-range2 .ensures,
-      c .before .before .before .before .in-range .ensures,
+      c .is-calm .ensures,
+      v .in-range4 .ensures,
+      v .before .in-range3 .ensures,
+      v .before .before .before .in-range2 .ensures,
+      v .before .before .before .before .in-range .ensures,
     )
 
 pub in-bounds-spec : {M : Type 1} → statement M
-in-bounds-spec = tie.close (tie.spec (λ c κs. search needs) (λ c κs. search needs) (λ c κs. search needs) (λ c κs. search needs) returns)
+in-bounds-spec = tie.close (tie.spec (λ c κs. search needs) (λ c κs. search needs) (λ c κs. search needs) (λ c κs. search needs) (λ c κs. search needs) returns)

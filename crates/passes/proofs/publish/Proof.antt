@@ -6,15 +6,23 @@ use Rattle.passes.proofs.publish.Tie as tie
 
 returns : tie.Need-returns
 returns c =
-    let fourth = c .before .before in
+    let sixth = c .before .before in
+    let fifth = sixth .before .before .before .before in
+    let fourth = fifth .before .before .before .before in
     let third = fourth .before .before .before .before in
     let second = third .before .before .before .before in
     let first = second .before .before .before .before in
-    fourth .copy-run4 .ensures
-    ∙ rw (third .copy-run3 .ensures, second .copy-run2 .ensures, first .copy-run .ensures)
-    (published _ _ _ _ _ _ (first .before .before .before .before .before .pre .0))
+    sixth .copy-run6 .ensures
+    ∙ rw (
+      fifth .copy-run5 .ensures,
+      fourth .copy-run4 .ensures,
+      third .copy-run3 .ensures,
+      second .copy-run2 .ensures,
+      first .copy-run .ensures,
+    ) (published _ _ _ _ _ _ _ _ (first .before .before .before .before .before .before .pre .0))
 
 pub publish-spec : {M : Type 1} → statement M
 publish-spec =
     tie.close
-    (tie.spec (λ c κs. search needs) (λ c κs. search needs) (λ c κs. search needs) (λ c κs. search needs) (λ c. search needs) returns)
+    (tie.spec (λ c κs. search needs) (λ c κs. search needs) (λ c κs. search needs) (λ c κs. search needs) (λ c κs. search needs) (λ c κs. search needs)
+    (λ c. search needs) returns)

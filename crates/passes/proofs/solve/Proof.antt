@@ -8,17 +8,17 @@ use Rattle.passes.proofs.solve.Statement.{statement}
 use Rattle.passes.proofs.solve.Tie as tie
 
 abbrev its : tie.Start → Given
-its s = let a = s .args in given (mesh (a .x .now) (a .y .now) (a .tri .now) (a .h .now) (a .kind .now)) (a .p) (a .state .now) (a .w) (a .f)
+its s = let a = s .args in given (mesh (a .x .now) (a .y .now) (a .tri .now) (a .h .now) (a .kind .now)) (a .p) (a .state .now) (a .elevation) (a .winds .now)
 
 abbrev start : tie.After-assemble → tie.Start
-start m = m .before .before .before .before .before .before .before .before .before
+start m = m .before .before .before .before .before .before .before .before .before .before
 
 returns : tie.Need-returns
 unfolding row13
 returns c = (stops _ (c .before .before .before .before .rises .ensures .0) (c .if1 .taken), λ e. absurd (c .if1 .taken e))
 
 flows-requires : tie.Need-flows-requires
-flows-requires c κs = let m = c .before .before .before .before .before .before .before .before .before .before .before .before .before .before .before .before .before in (start m .pre .0, (c .before .before .before .before .slopes .ensures, m .assemble .ensures .1))
+flows-requires c κs = let m = c .before .before .before .before .before .before .before .before .before .before .before .before .before .before .before .before .before in (start m .pre .0, (c .before .before .before .before .slopes .ensures, m .assemble .ensures .1, start m .pre .1 .2))
 
 same-length-3 : tie.Need-same-length-3
 same-length-3 c =

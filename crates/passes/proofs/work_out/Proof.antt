@@ -13,13 +13,13 @@ use Rattle.passes.proofs.work_out.Statement.{statement}
 use Rattle.passes.proofs.work_out.Tie as tie
 
 abbrev its : tie.Start → Given
-its s = let a = s .args in given (mesh (a .x .now) (a .y .now) (a .tri .now) (a .h .now) (a .kind .now)) (a .p) (a .state .now) (a .w) (a .f)
+its s = let a = s .args in given (mesh (a .x .now) (a .y .now) (a .tri .now) (a .h .now) (a .kind .now)) (a .p) (a .state .now) (a .elevation) (a .winds .now)
 
 returns : tie.Need-returns
 returns c =
     let j = c .before .before .before .before .before .before .before .before in
     let k = j .before .before .before .before .before .before in
-    let s = k .before .before .before .before .before .before .before .before .before .before in
+    let s = k .before .before .before .before .before .before .before .before .before .before .before in
     let g = its s in (
       (
         k .solve .ensures .0,

@@ -1,16 +1,20 @@
+use Prim.Native.Nat.{ℕ}
 use mathlib.Core.Path.{_≡_, ap, _∙_}
+use mathlib.Core.List.{_++_}
+use lib.ListN.{drop}
 use Rattle.rows.specs.declared.Answer.{Answer}
 use native.Mathlib.Omega.{arith}
 use borrow.Author.Needs.{needs}
 use borrow.Author.Tests.{leb-true}
 use lib.Ieee.{ofBits}
-use Rattle.rows.specs.Scan.{accepted, _then_}
+use Rattle.rows.specs.Scan.{accepted}
 use Rattle.rows.proofs.ScanLaws.{row-passed, then-rest, same-number, stops, goes}
-use Rattle.limits.specs.Limits.{row12Held}
-use Rattle.mesh.specs.Lent.{Mesh, mesh}
+use Rattle.mesh.specs.Lent.{Mesh, mesh, N, E}
+use Rattle.areas.proofs.AreaLaws.{all-counted}
 use Rattle.bounds.specs.State.{runRows}
 use Rattle.bounds.proofs.StateLaws.{AcceptedRun, accepted-run}
-use Rattle.saves.specs.Save.{row24, saveAnswer}
+use Rattle.saves.specs.Save.{saveText, row24, saveAnswer}
+use Rattle.saves.specs.Lines.{saveLength}
 use Rattle.saves.proofs.SaveLaws.{save-refused, save-written}
 use Rattle.saves.proofs.save.Statement.{statement}
 use Rattle.saves.proofs.save.Tie as tie
@@ -30,11 +34,11 @@ passed c = same-number (checked (c .before .before)) (c .if1 .left)
 run : (c : tie.Else1) → let s = start (c .before .before) in AcceptedRun accepted (net s) (s .args .p) (s .args .state .now)
 run c = accepted-run _ _ _ _ (passed c)
 
--- with rows 12 and 24
-answered : (c : tie.After-first) → let s = start (c .before .before .before .before .before .before) in
-    c .first .result ≡ saveAnswer (net s) (s .args .p) (s .args .state .now) (s .args .clock) (s .args .text .now)
+-- with row 24
+answered : (c : tie.After-tested) → let s = start (c .before .before .before) in
+    c .tested .result ≡ saveAnswer (net s) (s .args .p) (s .args .state .now) (s .args .text .now)
 unfolding saveAnswer row24
-answered c = goes _ (passed (c .before .before .before .before)) (c .first .ensures ∙ (λ i. (c .before .held-wind .ensures ∙ ap row12Held (c .before .before .wind .ensures)) i then c .before .before .before .tested .ensures i))
+answered c = goes _ (passed (c .before)) (c .tested .ensures)
 
 returns : tie.Need-returns
 unfolding saveAnswer
@@ -46,21 +50,27 @@ returns-2 c = save-refused _ _ _ _ _ (answered (c .before .before)) (c .if2 .tak
 write-requires : tie.Need-write-requires
 unfolding saveAnswer row24
 write-requires c κs =
-    let f = c .before .before .before in
-    let its = run (f .before .before .before .before) in
-    let fits = row-passed _ 23 _ (then-rest _ _ (then-rest _ _ (same-number (answered f) (c .before .if2 .left)))) in
+    let t = c .before .before .before .before in
+    let its = run (t .before) in
+    let fits = row-passed _ 23 _ (then-rest _ _ (same-number (answered t) (c .before .before .if2 .left))) in
     (its .shape .sized .most-nodes, its .long, leb-true _ _ fits)
 
 returns-3 : tie.Need-returns-3
 unfolding ofBits
 returns-3 c =
     let w = c .before .before in
-    let e = w .before .before in
-    save-written _ _ _ _ _ (answered (e .before .before)) (e .if2 .left) (w .write .ensures)
+    let sum = w .before .before in
+    let t = sum .before .before .before in
+    let s = start (t .before .before .before) in
+    let a = s .args in
+    let m = net s in
+    let same = sum .twice-areas .ensures ∙ all-counted m (run (t .before) .shape) in
+    save-written m (a .p) (a .state .now) (a .clock) (a .text .now) (answered t) (sum .before .if2 .left)
+    (w .write .ensures ∙ ap (λ (total : ℕ). saveText (record { n = N m; e = E m; sum = total; p = a .p; state = a .state .now; clock = a .clock }) ++ drop (saveLength (N m)) (a .text .now)) same)
 
 pub save-spec : {M : Type 1} → statement M
 save-spec =
     tie.close
     (tie.spec (λ c κs. tt) (λ c κs. tt) returns (λ c. omega (arith, run c .shape .sized .most-nodes))
-    (λ c. omega (arith, run c .shape .sized .most-nodes)) (λ c κs. tt) (λ c κs. tt) (λ c κs. tt) (λ c κs. tt) returns-2 write-requires (λ c. search needs)
+    (λ c. omega (arith, run c .shape .sized .most-nodes)) (λ c κs. tt) returns-2 (λ c κs. tt) write-requires (λ c. search needs)
     returns-3)

@@ -9,6 +9,7 @@ use Rattle.demands.proofs.FrictionProof.{same-at-zero-friction}
 use Rattle.demands.proofs.AdvectionProof.{off-gives-earlier}
 use Rattle.demands.proofs.RoundTripProof.{saved-is-loaded, same-text-same-run, loaded-is-saved}
 use Rattle.demands.proofs.SpellingsProof.{either-case, many-spellings-one-form}
+use Rattle.demands.proofs.EditionsProof.{old-saves-load, old-builds-refuse}
 use Rattle.demands.proofs.Demand3Proof.{demand3-at-surge, any-save-at-surge, opens-cold, own-saves-load, held-runs-save}
 use Rattle.worked.proofs.ComputedProof.{computed-holds}
 use Rattle.worked.proofs.LatestProof.{latest-holds}
@@ -31,6 +32,8 @@ every-statement = record {
   loaded-is-saved = loaded-is-saved;
   either-case = either-case;
   many-spellings-one-form = many-spellings-one-form;
+  old-saves-load = old-saves-load;
+  old-builds-refuse = old-builds-refuse;
   demand3 = demand3-at-surge;
   any-save = any-save-at-surge;
   opens-cold = opens-cold;

@@ -6,7 +6,8 @@ use Rattle.triangle.proofs.means_of.Tie as tie
 returns : tie.Need-returns
 unfolding means z* H qx qy
 returns c =
-    let xu = c .before .before .before in
+    let yv = c .before .before in
+    let xu = yv .before .before .before in
     let sy = xu .before in
     let sx = sy .before .before .before .before in
     let gy = sx .before .before .before .before in
@@ -26,13 +27,15 @@ returns c =
       sx = sx .slope3 .ensures i;
       sy = sy .slope4 .ensures i;
       xu = xu .slope5 .ensures i;
-      yu = c .before .before .slope6 .ensures i;
-      xv = c .before .slope7 .ensures i;
-      yv = c .slope8 .ensures i;
+      yu = yv .before .before .slope6 .ensures i;
+      xv = yv .before .slope7 .ensures i;
+      yv = yv .slope8 .ensures i;
+      wx = c .before .mean7 .ensures i;
+      wy = c .mean8 .ensures i;
     }
 
 pub means-of-spec : {M : Type 1} → statement M
 means-of-spec =
     tie.close
     (tie.spec (λ c κs. tt) (λ c κs. tt) (λ c κs. tt) (λ c κs. tt) (λ c κs. tt) (λ c κs. tt) (λ c κs. tt) (λ c κs. tt) (λ c κs. tt) (λ c κs. tt)
-    (λ c κs. tt) (λ c κs. tt) (λ c κs. tt) (λ c κs. tt) returns)
+    (λ c κs. tt) (λ c κs. tt) (λ c κs. tt) (λ c κs. tt) (λ c κs. tt) (λ c κs. tt) returns)

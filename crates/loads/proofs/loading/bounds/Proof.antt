@@ -4,19 +4,20 @@ use native.Mathlib.Omega.{arith}
 use borrow.Author.Count.{below-none, below-more}
 use borrow.Author.Needs.{needs}
 use Rattle.rows.proofs.ScanLaws.{scan-none, scan-hit, same-number, other-number}
-use Rattle.loads.specs.Load.{row10Read}
+use Rattle.loads.specs.Load.{row10In}
+use Rattle.loads.specs.Private.{linesOf}
 use Rattle.loads.proofs.loading.bounds.Statement.{statement}
 use Rattle.loads.proofs.loading.bounds.Tie as tie
 
 -- no node passed so far refuses
 abbrev Inv-loop : tie.InvT-loop
-Inv-loop n h text i₀ i = (i ≤ n) × ((k : ℕ) → k < i → row10Read n h text k .number ≡ 0)
+Inv-loop d n h text held i₀ i = (i ≤ n) × ((k : ℕ) → k < i → row10In (linesOf d) n text h k .number ≡ 0)
 
 abbrev μ-loop : tie.MeasureT-loop
-μ-loop n h text i₀ i = n - i
+μ-loop d n h text held i₀ i = n - i
 
 its : (c : tie.After-tested Inv-loop μ-loop) → let l = c .before .before .before .before in
-    let a = l .before .before .before .args in c .tested .result ≡ row10Read (a .n) (a .h .now) (a .text .now) (l .loop .i)
+    let a = l .before .before .before .args in c .tested .result ≡ row10In (linesOf (a .d)) (a .n) (a .text .now) (a .h .now) (l .loop .i)
 its c = rw (c .tested .ensures, c .before .in-bounds .ensures, c .before .before .node-at .ensures)
 
 returns : tie.Need-returns Inv-loop μ-loop

@@ -1,5 +1,5 @@
 use Prim.Native.Nat.{ℕ, _-_, _*_, _≤_}
-use mathlib.Core.Path.{_≡_, refl, sym, ap, _∙_}
+use mathlib.Core.Path.{_≡_, sym, ap, _∙_}
 use native.Mathlib.Omega.{arith}
 use borrow.Author.Needs.{needs}
 use lib.Dec.{lit<}
@@ -10,7 +10,6 @@ use Rattle.lists.specs.Gather.{gathered}
 use Rattle.lists.specs.Private.{past, spread}
 use Rattle.lists.proofs.TableLaws.{length-table}
 use Rattle.lists.proofs.RunLaws.{runs-length}
-use Rattle.quantities.specs.declared.Forcing.{Forcing}
 use Rattle.geometry.specs.Private.{nodesOf}
 use Rattle.mesh.specs.Lent.{mesh, E}
 use Rattle.mesh.proofs.SideLaws.{corners-read}
@@ -22,70 +21,70 @@ use Rattle.passes.proofs.SettleLaws.{cleared-room}
 use Rattle.passes.proofs.elevations.assemble.Statement.{statement}
 use Rattle.passes.proofs.elevations.assemble.Tie as tie
 
--- for any forcing: none is read here
 abbrev Inv-loop : tie.InvT-loop
-Inv-loop work₀ sums₀ x y tri h kind p state w n e t₀ work sums t =
-    (t ≤ e) × ((f : Forcing) → let g = given (mesh x y tri h kind) p state w f in (work ≡ sumsTo g t) × (sums ≡ table (count g) (S-to g t)))
+Inv-loop work₀ sums₀ x y tri h kind p state elevation winds n e t₀ work sums t =
+    let g = given (mesh x y tri h kind) p state elevation winds in
+    (t ≤ e) × ((work ≡ sumsTo g t) × (sums ≡ table (count g) (S-to g t)))
 
 abbrev μ-loop : tie.MeasureT-loop
-μ-loop work₀ sums₀ x y tri h kind p state w n e t₀ work sums t = e - t
+μ-loop work₀ sums₀ x y tri h kind p state elevation winds n e t₀ work sums t = e - t
 
-abbrev its : tie.Start Inv-loop μ-loop → Forcing → Given
-its s f = let a = s .args in given (mesh (a .x .now) (a .y .now) (a .tri .now) (a .h .now) (a .kind .now)) (a .p) (a .state .now) (a .w) f
+abbrev its : tie.Start Inv-loop μ-loop → Given
+its s = let a = s .args in given (mesh (a .x .now) (a .y .now) (a .tri .now) (a .h .now) (a .kind .now)) (a .p) (a .state .now) (a .elevation) (a .winds .now)
 
 abbrev start : tie.At-loop Inv-loop μ-loop → tie.Start Inv-loop μ-loop
-start l = l .before .before .before .before .before .before .before .before .before .before .before .before .before .before .before
+start l = l .before .before .before .before .before .before .before .before .before .before .before .before .before .before .before .before
 
-fits : (l : tie.At-loop Inv-loop μ-loop) (f : Forcing) → Fits (its (start l) f)
-fits l f = let z = start l .pre .0 in record { shape = z .shape; state = z .state; setting = refl }
+fits : (l : tie.At-loop Inv-loop μ-loop) → Fits (its (start l))
+fits l = start l .pre .0
 
 long : (l : tie.At-loop Inv-loop μ-loop) → length (l .loop .work) ≡ workRuns * length (start l .args .x .now)
-long l = ap length (l .loop .inv .1 (start l .args .f) .0) ∙ runs-length _ _
+long l = ap length (l .loop .inv .1 .0) ∙ runs-length _ _
 
 sums-long : (l : tie.At-loop Inv-loop μ-loop) → length (l .loop .sums) ≡ length (start l .args .x .now)
-sums-long l = ap length (l .loop .inv .1 (start l .args .f) .1) ∙ length-table _ _
+sums-long l = ap length (l .loop .inv .1 .1) ∙ length-table _ _
 
 -- the corners that were read are those of triangle t
-corner : (c : tie.After-corners-at Inv-loop μ-loop) → let l = c .before .before in nodesOf (c .corners-at .result) ≡ cornersOf (its (start l) (start l .args .f)) (l .loop .t)
+corner : (c : tie.After-corners-at Inv-loop μ-loop) → let l = c .before .before in nodesOf (c .corners-at .result) ≡ cornersOf (its (start l)) (l .loop .t)
 corner c = corners-read _ _ (c .before .loop-test .taken) (c .corners-at .ensures)
 
 loop-holds : tie.Need-loop-holds Inv-loop μ-loop
 unfolding gathered
 loop-holds c =
-    let s = c .before .before .before .before .before .before .before .before .before .before .before .before .before .before in
-    (omega arith, λ f. (cleared-room (its s f) _ (s .pre .1 .0) (c .before .before .before .before .before .before .clear .ensures) ∙ sum-none (its s f), c .before .before .clear-whole .ensures ∙ ap (λ (n : ℕ). table n (λ _. 0)) (s .pre .1 .1)))
+    let s = c .before .before .before .before .before .before .before .before .before .before .before .before .before .before .before in
+    (omega arith, (cleared-room (its s) _ (s .pre .1 .0) (c .before .before .before .before .before .before .clear .ensures) ∙ sum-none (its s), c .before .before .clear-whole .ensures ∙ ap (λ (n : ℕ). table n (λ _. 0)) (s .pre .1 .1)))
 
 places-at-requires : tie.Need-places-at-requires Inv-loop μ-loop
 places-at-requires c κs =
     let l = c .before .before in
-    let z = fits l (start l .args .f) in
+    let z = fits l in
     (z .shape .sized .y, inside _ z _ (c .before .loop-test .taken) (corner c))
 
 floats-of-requires : tie.Need-floats-of-requires Inv-loop μ-loop
 floats-of-requires c κs =
     let k = c .before .before in
     let l = k .before .before in
-    its-near _ (fits l (start l .args .f)) _ (k .before .loop-test .taken) (corner k) (c .before .places-at .ensures) (c .sides-of .ensures)
+    its-near _ (fits l) _ (k .before .loop-test .taken) (corner k) (c .before .places-at .ensures) (c .sides-of .ensures)
 
 means-at-requires : tie.Need-means-at-requires Inv-loop μ-loop
 means-at-requires c κs =
     let k = c .before .before .before in
     let l = k .before .before in
-    let z = fits l (start l .args .f) in
+    let z = fits l in
     (inside _ z _ (k .before .loop-test .taken) (corner k), z .shape .sized .h, z .state)
 
 spread-advection-requires : tie.Need-spread-advection-requires Inv-loop μ-loop
 spread-advection-requires c κs =
     let k = c .before .before .before .before .before in
     let l = k .before .before in
-    (inside _ (fits l (start l .args .f)) _ (k .before .loop-test .taken) (corner k), long l)
+    (inside _ (fits l) _ (k .before .loop-test .taken) (corner k), long l)
 
 spread-requires : tie.Need-spread-requires Inv-loop μ-loop
 spread-requires c κs =
     let both = c .before .before .before .before in
     let k = both .before .before .before .before .before .before in
     let l = k .before .before in
-    rw (both .spread-advection .kept .0 ∙ long l) (in-run 0 workRuns (lit< tt) (inside _ (fits l (start l .args .f)) _ (k .before .loop-test .taken) (corner k)))
+    rw (both .spread-advection .kept .0 ∙ long l) (in-run 0 workRuns (lit< tt) (inside _ (fits l) _ (k .before .loop-test .taken) (corner k)))
 
 abbrev back : tie.After-spread-area-arg Inv-loop μ-loop → tie.After-sides-of Inv-loop μ-loop
 back c = c .before .before .before .before .before .before .before .before .before .before .before .before
@@ -95,7 +94,7 @@ area-of-requires c κs =
     let w = back c in
     let k = w .before .before in
     let l = k .before .before in
-    let z = fits l (start l .args .f) in
+    let z = fits l in
     let h = k .before .loop-test .taken in
     (its-near _ z _ h (corner k) (w .before .places-at .ensures) (w .sides-of .ensures), its-turn _ z _ h (corner k) (w .before .places-at .ensures) (w .sides-of .ensures))
 
@@ -104,10 +103,9 @@ spread-area-requires c κs =
     let w = back (c .before) in
     let k = w .before .before in
     let l = k .before .before in
-    let f = start l .args .f in
     let h = k .before .loop-test .taken in
-    let d = its-area _ (fits l f) _ h (corner k) (w .before .places-at .ensures) (w .sides-of .ensures) (c .area-of .ensures) in
-    (rw (sums-long l) (inside _ (fits l f) _ h (corner k)), λ i. S-room _ (fits l f) (l .loop .t) i h d (l .loop .inv .1 f .1))
+    let d = its-area _ (fits l) _ h (corner k) (w .before .places-at .ensures) (w .sides-of .ensures) (c .area-of .ensures) in
+    (rw (sums-long l) (inside _ (fits l) _ h (corner k)), λ i. S-room _ (fits l) (l .loop .t) i h d (l .loop .inv .1 .1))
 
 loop-again : tie.Need-loop-again Inv-loop μ-loop
 loop-again c =
@@ -121,33 +119,33 @@ loop-again c =
     let m = both .before .before in
     let n = length (start l .args .x .now) in
     let at = nodesOf (k .corners-at .result) in
-    let h = k .before .loop-test .taken in (
+    let h = k .before .loop-test .taken in
+    let z = fits l in
+    let inv = l .loop .inv .1 in
+    let s = its-floats _ z _ h (corner k) (q .places-at .ensures) (w .sides-of .ensures) (m .before .floats-of .ensures) in (
       omega (arith, h),
-      λ f.
-          let z = fits l f in
-          let inv = l .loop .inv .1 f in
-          let s = its-floats _ z _ h (corner k) (q .places-at .ensures) (w .sides-of .ensures) (m .before .floats-of .ensures) in (
-            first .spread .ensures
-                ∙ ap (spread floating nan (past (0 * n) at) (threeOf (first .before .shares .result))) (both .spread-advection .ensures)
-                ∙ sum-more _ z _ h (corner k) (its-shares _ z _ h (corner k) s (m .means-at .ensures) (first .before .shares .ensures)) (its-means _ z _ h (corner k) s (m .means-at .ensures)) (inv .0),
-            c .before .before .spread-area .ensures
-                ∙ area-more _ z _ h (corner k) (its-area _ z _ h (corner k) (q .places-at .ensures) (w .sides-of .ensures) (d .area-of .ensures)) (inv .1),
-          ),
+      (
+        first .spread .ensures
+            ∙ ap (spread floating nan (past (0 * n) at) (threeOf (first .before .shares .result))) (both .spread-advection .ensures)
+            ∙ sum-more _ z _ h (corner k) (its-shares _ z _ h (corner k) s (m .means-at .ensures) (first .before .shares .ensures)) (its-means _ z _ h (corner k) s (m .means-at .ensures)) (inv .0),
+        c .before .before .spread-area .ensures
+            ∙ area-more _ z _ h (corner k) (its-area _ z _ h (corner k) (q .places-at .ensures) (w .sides-of .ensures) (d .area-of .ensures)) (inv .1),
+      ),
     )
 
 returns : tie.Need-returns Inv-loop μ-loop
 returns c =
     let l = c .before in
     let s = start l in
-    let g = its s (s .args .f) in
+    let g = its s in
     let end : l .loop .t ≡ E (g .mesh) = omega arith in
-    let v = l .loop .inv .1 (s .args .f) in
+    let v = l .loop .inv .1 in
     (v .0 ∙ ap (sumsTo g) end, v .1 ∙ ap (λ (t : ℕ). table (count g) (S-to g t)) end)
 
 pub assemble-spec : {M : Type 1} → statement M
 assemble-spec =
     tie.close
     (tie.spec Inv-loop μ-loop (λ c κs. tt) (λ c κs. tt) loop-holds (λ c κs. tt) places-at-requires (λ c κs. tt) floats-of-requires means-at-requires spread-advection-requires (λ c. search needs) (λ c κs. tt) spread-requires area-of-requires spread-area-requires
-    (λ c. let k = back (c .before .before .before .before) .before .before in record { fits = omega (arith, k .before .loop-test .taken, fits (k .before .before) (start (k .before .before) .args .f) .shape .sized .most-triangles) })
+    (λ c. let k = back (c .before .before .before .before) .before .before in record { fits = omega (arith, k .before .loop-test .taken, fits (k .before .before) .shape .sized .most-triangles) })
     (λ c. omega (arith, back (c .before .before .before .before) .before .before .before .loop-test .taken)) loop-again (λ c. let l = c .before in long l ∙ sym (start l .pre .1 .0))
     (λ c. let l = c .before in sums-long l ∙ sym (start l .pre .1 .1)) returns)

@@ -23,18 +23,18 @@ abbrev rowAt : Given → ℕ → Answer
 rowAt g i = flowRow (flowAt g i) i
 
 abbrev Inv-loop : tie.InvT-loop
-Inv-loop work₀ sums x y tri h kind p state w f n all₀ i₀ work all i =
-    let g = given (mesh x y tri h kind) p state w f in
+Inv-loop work₀ sums x y tri h kind p state elevation winds n all₀ i₀ work all i =
+    let g = given (mesh x y tri h kind) p state elevation winds in
     (i ≤ n) × ((work ≡ flowsTo g i) × (all ≡ eqb (scan (rowAt g) i .number) 0))
 
 abbrev μ-loop : tie.MeasureT-loop
-μ-loop work₀ sums x y tri h kind p state w f n all₀ i₀ work all i = n - i
+μ-loop work₀ sums x y tri h kind p state elevation winds n all₀ i₀ work all i = n - i
 
 abbrev start : tie.At-loop Inv-loop μ-loop → tie.Start Inv-loop μ-loop
-start l = l .before .before .before .before .before .before .before
+start l = l .before .before .before .before .before .before .before .before
 
 abbrev its : tie.Start Inv-loop μ-loop → Given
-its s = let a = s .args in given (mesh (a .x .now) (a .y .now) (a .tri .now) (a .h .now) (a .kind .now)) (a .p) (a .state .now) (a .w) (a .f)
+its s = let a = s .args in given (mesh (a .x .now) (a .y .now) (a .tri .now) (a .h .now) (a .kind .now)) (a .p) (a .state .now) (a .elevation) (a .winds .now)
 
 abbrev here : tie.At-loop Inv-loop μ-loop → Given
 here l = its (start l)
@@ -81,7 +81,7 @@ pub flows-spec : {M : Type 1} → statement M
 flows-spec =
     tie.close
     (tie.spec Inv-loop μ-loop
-    (λ c. let s = c .before .before .before .before .before .before in (omega arith, (s .pre .1 .0 ∙ flow-none (its s), all-none _)))
+    (λ c. let s = c .before .before .before .before .before .before .before in (omega arith, (s .pre .1 .0 ∙ flow-none (its s), all-none _)))
     (λ c. let m = long (c .before) in search needs) (λ c. let m = long (c .before) in search needs) (λ c. let m = long (c .before) in search needs)
     (λ c. let t = c .before in omega (arith, long (t .before), t .loop-test .taken)) (λ c. let m = long (c .before .before) in search needs)
     (λ c. let m = long (c .before .before) in search needs) (λ c. let m = long (c .before .before) in search needs)
@@ -100,7 +100,7 @@ flows-spec =
     let t = c .before .before .before .before .before in
     let s = start (t .before) in
     let z = fits (t .before) in
-    ((t .loop-test .taken, z .shape .sized .h, z .state), (z .shape .sized .kind, ap length (s .pre .1 .1) ∙ length-table _ _)))
+    ((t .loop-test .taken, z .shape .sized .h, z .state), (z .shape .sized .kind, s .pre .1 .2, ap length (s .pre .1 .1) ∙ length-table _ _)))
     (λ c. let m = long (c .before .before .before .before .before .before .before) in search needs)
     (λ c. let m = long (c .before .before .before .before .before .before .before) in search needs)
     (λ c. let m = long (c .before .before .before .before .before .before .before) in search needs)

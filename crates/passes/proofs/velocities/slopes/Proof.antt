@@ -8,8 +8,6 @@ use Rattle.lists.specs.Gather.{Three, gathered}
 use Rattle.lists.specs.Private.{Below, past, spread}
 use Rattle.lists.proofs.RunLaws.{runs-length}
 use Rattle.quantities.specs.declared.Parameters.{Parameters}
-use Rattle.quantities.specs.declared.Wind.{Wind}
-use Rattle.quantities.specs.declared.Forcing.{Forcing}
 use Rattle.geometry.specs.Private.{nodesOf}
 use Rattle.mesh.specs.Lent.{mesh, E}
 use Rattle.mesh.proofs.SideLaws.{corners-read}
@@ -20,28 +18,28 @@ use Rattle.passes.proofs.PassLaws.{slopesTo, in-run, inside, its-near, 
 use Rattle.passes.proofs.velocities.slopes.Statement.{statement}
 use Rattle.passes.proofs.velocities.slopes.Tie as tie
 
--- for any parameters, wind and forcing that z' is of: none is read here
+-- for any parameters that z' is of: none is read here
 abbrev Inv-loop : tie.InvT-loop
-Inv-loop work₀ x y tri h kind state n e t₀ work t =
-    (t ≤ e) × ((p : Parameters) (w : Wind) (f : Forcing) → let g = given (mesh x y tri h kind) p state w f in work₀ ≡ riseRoom g → work ≡ slopesTo g t)
+Inv-loop work₀ x y tri h kind state elevation winds n e t₀ work t =
+    (t ≤ e) × ((p : Parameters) → let g = given (mesh x y tri h kind) p state elevation winds in work₀ ≡ riseRoom g → work ≡ slopesTo g t)
 
 abbrev μ-loop : tie.MeasureT-loop
-μ-loop work₀ x y tri h kind state n e t₀ work t = e - t
+μ-loop work₀ x y tri h kind state elevation winds n e t₀ work t = e - t
 
 abbrev start : tie.At-loop Inv-loop μ-loop → tie.Start Inv-loop μ-loop
-start l = l .before .before .before .before .before .before
+start l = l .before .before .before .before .before .before .before
 
-abbrev its : tie.Start Inv-loop μ-loop → Parameters → Wind → Forcing → Given
-its s p w f = let a = s .args in given (mesh (a .x .now) (a .y .now) (a .tri .now) (a .h .now) (a .kind .now)) p (a .state .now) w f
+abbrev its : tie.Start Inv-loop μ-loop → Parameters → Given
+its s p = let a = s .args in given (mesh (a .x .now) (a .y .now) (a .tri .now) (a .h .now) (a .kind .now)) p (a .state .now) (a .elevation) (a .winds .now)
 
 abbrev here : tie.At-loop Inv-loop μ-loop → Given
-here l = let a = start l .args in its (start l) (a .p) (a .w) (a .f)
+here l = let a = start l .args in its (start l) (a .p)
 
 fits : (l : tie.At-loop Inv-loop μ-loop) → Fits (here l)
 fits l = start l .pre .0
 
 inv : (l : tie.At-loop Inv-loop μ-loop) → l .loop .work ≡ slopesTo (here l) (l .loop .t)
-inv l = let a = start l .args in l .loop .inv .1 (a .p) (a .w) (a .f) (start l .pre .1)
+inv l = let a = start l .args in l .loop .inv .1 (a .p) (start l .pre .1)
 
 long : (l : tie.At-loop Inv-loop μ-loop) → length (l .loop .work) ≡ workRuns * length (start l .args .x .now)
 long l = ap length (inv l) ∙ runs-length _ _
@@ -55,7 +53,7 @@ below c = inside _ (fits (c .before .before)) _ (c .before .loop-test .taken) (c
 
 loop-holds : tie.Need-loop-holds Inv-loop μ-loop
 unfolding gathered
-loop-holds c = (omega arith, λ p w f e. e)
+loop-holds c = (omega arith, λ p e. e)
 
 loop-again : tie.Need-loop-again Inv-loop μ-loop
 loop-again c =
@@ -70,13 +68,13 @@ loop-again c =
     let n = length (start l .args .x .now) in
     let at = nodesOf (k .corners-at .result) in (
       omega (arith, h),
-      λ p wind f e.
-          let g = its (start l) p wind f in
+      λ p e.
+          let g = its (start l) p in
           let y = fits l in
           let z : Fits g = record { shape = y .shape; state = y .state; setting = refl } in
           second .spread2 .ensures
           ∙ (λ i. spread floating nan (past (2 * n) at) (second .before .alike2 .ensures i) ((first .spread .ensures ∙ ap (λ (a : Three Float). spread floating nan (past (1 * n) at) a (l .loop .work)) (first .before .alike .ensures)) i))
-          ∙ slope-more g z _ h (corner k) (l .loop .inv .1 p wind f e) (its-floats g z _ h (corner k) (q .places-at .ensures) (w .sides-of .ensures) (v .before .before .floats-of .ensures)) (v .slope-of .ensures),
+          ∙ slope-more g z _ h (corner k) (l .loop .inv .1 p e) (its-floats g z _ h (corner k) (q .places-at .ensures) (w .sides-of .ensures) (v .before .before .floats-of .ensures)) (v .slope-of .ensures),
     )
 
 returns : tie.Need-returns Inv-loop μ-loop

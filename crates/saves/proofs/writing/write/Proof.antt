@@ -1,20 +1,26 @@
-use Prim.Native.Nat.{_+_, _-_, _≤_}
+use Prim.Native.Nat.{_-_, _≤_}
 use mathlib.Core.Path.{_≡_, refl, ap, _∙_}
 use native.Mathlib.Omega.{arith}
 use borrow.Author.Needs.{needs}
 use lib.ListN.{length}
-use Rattle.saves.specs.Save.{linesTo}
-use Rattle.saves.proofs.LineLaws.{lines-long, save-long}
-use Rattle.saves.proofs.WriteLaws.{reached, soFar, so-far-long, put-next}
+use Rattle.frames.specs.Texts.{linesTo}
+use Rattle.saves.specs.Lines.{edition2, lineCount}
+use Rattle.saves.specs.Save.{Saved}
+use Rattle.saves.proofs.LineLaws.{save-long}
+use Rattle.saves.proofs.WriteLaws.{lines-start, reached, soFar, so-far-long, put-next}
 use Rattle.saves.proofs.writing.write.Statement.{statement}
 use Rattle.saves.proofs.writing.write.Tie as tie
 
 abbrev Inv-loop : tie.InvT-loop
-Inv-loop text₀ n e state clock count at₀ j₀ text at j =
-    (j ≤ count) × (at ≡ reached n e state clock j) × (text ≡ soFar n e state clock text₀ j)
+Inv-loop text₀ n e sum p state clock count at₀ j₀ text at j =
+    let s : Saved = record { n = n; e = e; sum = sum; p = p; state = state; clock = clock } in
+    (j ≤ count) × (at ≡ reached s j) × (text ≡ soFar s text₀ j)
 
 abbrev μ-loop : tie.MeasureT-loop
-μ-loop text₀ n e state clock count at₀ j₀ text at j = count - j
+μ-loop text₀ n e sum p state clock count at₀ j₀ text at j = count - j
+
+abbrev its : tie.Start Inv-loop μ-loop → Saved
+its s = let a = s .args in record { n = a .n; e = a .e; sum = a .sum; p = a .p; state = a .state .now; clock = a .clock }
 
 loop-holds : tie.Need-loop-holds Inv-loop μ-loop
 unfolding linesTo
@@ -24,23 +30,22 @@ loop-again : tie.Need-loop-again Inv-loop μ-loop
 loop-again c =
     let u = c .before .before in
     let p = u .before .before .before .before in
-    let a = p .before .before .before .args in
+    let s = p .before .before .before in
     let i = p .loop .inv in
-    put-next (a .n) (a .e) (a .state .now) (a .clock) (a .text .now) (omega arith) (p .loop .j) (omega arith)
-    (i .2) (i .1) (u .before .line-of .ensures) (u .put .ensures)
+    put-next (its s) (s .args .text .now) (omega arith) (p .loop .j) (omega arith) (i .2) (i .1) (u .before .line-of .ensures) (u .put .ensures)
 
 same-length : tie.Need-same-length Inv-loop μ-loop
 same-length c =
     let p = c .before in
-    let a = p .before .before .before .args in
-    ap length (p .loop .inv .2) ∙ so-far-long (a .n) (a .e) (a .state .now) (a .clock) (a .text .now) (omega arith) (p .loop .j) (omega arith)
+    let s = p .before .before .before in
+    ap length (p .loop .inv .2) ∙ so-far-long (its s) (s .args .text .now) (omega arith) (p .loop .j) (omega arith)
 
 returns : tie.Need-returns Inv-loop μ-loop
 returns c =
     let p = c .before in
-    let a = p .before .before .before .args in
-    let last : p .loop .j ≡ a .n + 2 = omega arith in
-    p .loop .inv .2 ∙ rw (last, lines-long (a .n) (a .e) (a .state .now) (a .clock) (a .n + 2), save-long (a .n))
+    let s = p .before .before .before in
+    let last : p .loop .j ≡ lineCount edition2 (s .args .n) = omega arith in
+    p .loop .inv .2 ∙ rw (last, lines-start (its s) (lineCount edition2 (s .args .n)), save-long (s .args .n))
 
 pub write-spec : {M : Type 1} → statement M
 write-spec =
