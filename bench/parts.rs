@@ -89,8 +89,8 @@ fn inside_at<const ADVECTION: bool>(rounds: usize, world: &World, numbers: &[f64
     let mut carried = vec![[0.0; 2]; n];
     let mut parts = Vec::new();
     let mut part = |name: &'static str, work: &mut dyn FnMut()| parts.push((name, each(rounds, TIMES, work)));
-    let marks = mesh::triangles(&mesh).expect("a sound mesh").marks;
-    part("rows 3 to 5, the marks and the sum of D, over the triangles", &mut || assert!(black_box(mesh::triangles(black_box(&mesh))).is_ok()));
+    let marks = mesh::triangles(&mesh, |_| ()).expect("a sound mesh");
+    part("rows 3 to 5 and the marks, over the triangles", &mut || assert!(black_box(mesh::triangles(black_box(&mesh), |_| ())).is_ok()));
     part("row 7, over the marks", &mut || assert!(mesh::row_7(black_box(&mesh), &marks).is_ok()));
     part("row 8, over the nodes", &mut || assert!(mesh::row_8(black_box(&mesh)).is_ok()));
     part("row 10, over the nodes", &mut || assert!(step::row_10(black_box(&mesh), numbers).is_ok()));

@@ -16,20 +16,30 @@ pub fn within(low: f64, v: f64, high: f64) -> bool {
 /// How row 6 is tested.
 pub type Row6 = fn(&Mesh) -> Result<(), Answer>;
 
-/// Rows 1 to 9 but 6, and the sum of all D, which they work out on the way. Each pair is the length of a further slice and the one that it must have.
-pub fn rows_1_to_9(mesh: &Mesh, lent: &[(usize, usize)]) -> Result<u64, Answer> {
+/// Rows 1 to 9 but 6. Each pair is the length of a further slice and the one that it must have.
+pub fn rows_1_to_9(mesh: &Mesh, lent: &[(usize, usize)]) -> Result<(), Answer> {
     rows_with_6(mesh, lent, |_| Ok(()))
 }
 
-/// The same with row 6; the caller says how it is tested.
-pub fn rows_with_6(mesh: &Mesh, lent: &[(usize, usize)], row_6: Row6) -> Result<u64, Answer> {
+/// Rows 1 to 9; the caller says how row 6 is tested.
+pub fn rows_with_6(mesh: &Mesh, lent: &[(usize, usize)], row_6: Row6) -> Result<(), Answer> {
+    rows(mesh, lent, row_6, |_| ())
+}
+
+/// Rows 1 to 9 but 6, and the sum of all D, which line 05 of a save has.
+pub fn rows_and_areas(mesh: &Mesh, lent: &[(usize, usize)]) -> Result<u64, Answer> {
+    let mut areas = 0;
+    rows(mesh, lent, |_| Ok(()), |d| areas += d)?;
+    Ok(areas)
+}
+
+fn rows(mesh: &Mesh, lent: &[(usize, usize)], row_6: Row6, each_d: impl FnMut(u64)) -> Result<(), Answer> {
     rows_1_and_2(mesh, lent)?;
-    let Triangles { marks, areas } = triangles(mesh)?;
+    let marks = triangles(mesh, each_d)?;
     row_6(mesh)?;
     row_7(mesh, &marks)?;
     row_8(mesh)?;
-    row_9(mesh)?;
-    Ok(areas)
+    row_9(mesh)
 }
 
 fn rows_1_and_2(mesh: &Mesh, lent: &[(usize, usize)]) -> Result<(), Answer> {
@@ -48,17 +58,9 @@ fn rows_1_and_2(mesh: &Mesh, lent: &[(usize, usize)]) -> Result<(), Answer> {
     Ok(())
 }
 
-/// What a pass over the triangles gives.
-pub struct Triangles {
-    /// of row 7
-    pub marks: [bool; MARKS],
-    /// the sum of all D
-    pub areas: u64,
-}
-
-/// Rows 3 to 5, in one pass over the triangles.
-pub fn triangles(mesh: &Mesh) -> Result<Triangles, Answer> {
-    let (mut marks, mut areas) = ([false; MARKS], 0);
+/// Rows 3 to 5, and the marks of row 7, in one pass over the triangles; the caller says what becomes of each D.
+pub fn triangles(mesh: &Mesh, mut each_d: impl FnMut(u64)) -> Result<[bool; MARKS], Answer> {
+    let mut marks = [false; MARKS];
     let n = mesh.nodes().min(MARKS);
     let (x, y) = (&mesh.x[..n], &mesh.y[..n]);
     for (t, [i, j, k]) in mesh.corners().enumerate() {
@@ -77,12 +79,12 @@ pub fn triangles(mesh: &Mesh) -> Result<Triangles, Answer> {
         if d <= 0 {
             return Err(Answer::refused(5, t));
         }
-        areas += d as u64;
+        each_d(d as u64);
         marks[i] = true;
         marks[j] = true;
         marks[k] = true;
     }
-    Ok(Triangles { marks, areas })
+    Ok(marks)
 }
 
 fn near(side: i64) -> bool {

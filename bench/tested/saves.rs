@@ -7,7 +7,7 @@ use crate::run::{fill_winds, Answer, Clock, Mesh, State};
 
 pub fn save(mesh: &Mesh, text: &mut [u8], state: &[f64], clock: Clock) -> Result<Answer, Answer> {
     let n = mesh.nodes();
-    let areas = mesh::rows_1_to_9(mesh, &[(state.len(), 6 * n)])?;
+    let areas = mesh::rows_and_areas(mesh, &[(state.len(), 6 * n)])?;
     step::row_10(mesh, state)?;
     let length = hex::save(n);
     let Some(room) = text.get_mut(..length) else {
@@ -20,7 +20,7 @@ pub fn save(mesh: &Mesh, text: &mut [u8], state: &[f64], clock: Clock) -> Result
 /// Every line is turned once: the values wait in a room of their own until the last test has passed.
 pub fn load(mesh: &Mesh, state: &mut [f64], text: &[u8]) -> Result<Clock, Answer> {
     let n = mesh.nodes();
-    let areas = mesh::rows_1_to_9(mesh, &[(state.len(), 6 * n)])?;
+    let areas = mesh::rows_and_areas(mesh, &[(state.len(), 6 * n)])?;
     let mut values = vec![0.0; 6 * n];
     let clock = if text.starts_with(b"01") { edition_1(mesh, &mut values, text)? } else { edition_2(mesh, &mut values, text, areas)? };
     step::row_10(mesh, &values)?;
