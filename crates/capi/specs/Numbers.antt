@@ -1,5 +1,5 @@
 -- The product's records, from the numbers that a C program passes and gets back one by one. What a call does is said by the product's own
--- definitions (openOf, stepOf, saveOf, loadOf, takenOf) on these records, and by nothing else.
+-- definitions (openOf, stepOf, saveOf, loadOf, takenOf, readOf) on these records, and by nothing else.
 use Prim.Native.Nat.{ℕ}
 use mathlib.Core.Bool.{not}
 use lib.Dec.{eqb}

@@ -28,11 +28,12 @@ row9 p =
 unfoldable pub isCalm : Wind → Bool
 isCalm w = within (minus 1 10) (w .x) (decimal 1 10) && within (minus 1 10) (w .y) (decimal 1 10)
 
--- | 10 | either z beyond 30 in size, present h+z below 0.1, U or V beyond 20 | node |. Document 02, #105: "Row 10 gains the node winds at 0.1, after U
--- and V."
+-- the wind that a node holds
 abbrev pub held : Node → Wind
 held c = record { x = c .wx; y = c .wy }
 
+-- | 10 | either z beyond 30 in size, present h+z below 0.1, U or V beyond 20 | node |. Document 02, #105: "Row 10 gains the node winds at 0.1, after U
+-- and V."
 unfoldable pub inBounds : Node → Bool
 inBounds c =
     inSize 30 (c .earlier) && inSize 30 (c .z) && le tenth (c .h ⊕ c .z) && inSize 20 (c .u) && inSize 20 (c .v) && isCalm (held c)

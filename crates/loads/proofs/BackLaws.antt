@@ -10,12 +10,11 @@ use lib.ListN.{length, getD, take}
 use lib.Ieee.{Float, nan, binary64, fits}
 use Rattle.rows.specs.Scan.{accepted}
 use Rattle.rows.proofs.ScanLaws.{row-holds, then-next}
-use Rattle.lists.proofs.RunLaws.{runs-length}
 use Rattle.quantities.specs.declared.Parameters.{Parameters}
 use Rattle.quantities.specs.declared.Wind.{Wind}
 use Rattle.patterns.proofs.PatternLaws.{pattern-fits}
 use Rattle.frames.specs.Bytes.{digit, digits, field}
-use Rattle.frames.specs.Frames.{line, text, fieldBytes, checked, digitsOf, bits}
+use Rattle.frames.specs.Frames.{Frame, Layout, line, text, fieldBytes, checked, digitsOf, bits}
 use Rattle.frames.specs.Reading.{value}
 use Rattle.frames.specs.Texts.{startOf, starts}
 use Rattle.frames.proofs.BackLaws.{field-back, float-field}
@@ -25,11 +24,11 @@ use Rattle.faults.specs.Faults.{fault, lineFault}
 use Rattle.faults.proofs.FaultLaws.{line-fine}
 use Rattle.surge.proofs.NextLaws.{six-runs}
 use Rattle.bounds.specs.State.{nodeOf}
-use Rattle.saves.specs.Lines.{Edition, Values, head2, run2, node1, node2, endLayout, edition1, edition2, layoutAt, lineCount, lineOf, textOf}
+use Rattle.saves.specs.Lines.{Edition, Values, run2, node1, node2, endLayout, edition1, edition2, layoutAt, lineCount, lineOf, textOf}
 use Rattle.saves.specs.Save.{Saved, runValues, stateValues, stateValues1, values1, values2, saveText, saveText1, withWind}
 use Rattle.saves.proofs.LineLaws.{Fitting, all-laid, line-long, fit1, fit2}
 use Rattle.loads.specs.Storable.{StorableClock, StorableState, StorableParameters}
-use Rattle.loads.specs.Load.{editionOf, row23, row25, lineIn, lineRows, clockIn, nodeIn, stateIn}
+use Rattle.loads.specs.Load.{editionOf, isHead, row23, row25, lineIn, lineRows, clockIn, nodeIn, stateIn}
 use Rattle.loads.proofs.NodeLaws.{loaded-all}
 
 -- ---- in either edition
@@ -45,6 +44,42 @@ module _ (d : Edition) (n : ℕ) (v : Values) (fit : Fitting d n v) where
       let f = lineOf d n v j in
       rw (line-found j h)
       (ap (λ (ws : List ℕ). fault (text f) (digitsOf ws) (layoutAt d n j .kind) j j) (sym (all-laid (layoutAt d n j .widths) _ (fit j))) ∙ line-fine f j k s)
+
+  -- no line is refused, where 23 and 25 accept the lines that were written
+  rows-fine : (e sum : ℕ) (p : Parameters) → ((j : ℕ) → row23 n e (text (lineOf d n v j)) (layoutAt d n j .kind) j ≡ accepted)
+      → ((j : ℕ) → row25 p sum (text (lineOf d n v j)) (layoutAt d n j .kind) j ≡ accepted)
+      → (j : ℕ) → j < lineCount d n → layoutAt d n j .kind < 256 → j < 65536 → lineRows d n (textOf d n v) e sum p j ≡ accepted
+  unfolding lineRows
+  rows-fine e sum p counts settings j h k s =
+      rw (fault-fine j h k s, line-found j h) (then-next accepted _ refl ∙ rw (counts j) (then-next accepted _ refl ∙ settings j))
+
+  -- the step number that is read is the one that the head has
+  step-found : (step : ℕ) → 0 < lineCount d n → value (text (lineOf d n v 0)) 7 4 ≡ step → clockIn d n (textOf d n v) ≡ record { step = step }
+  unfolding clockIn
+  step-found step h e = rw (line-found 0 h) (λ i. record { step = e i })
+
+-- row 23 of a head: N and E stand at the same bytes of both
+counts-head : (f : Frame) (kind n e : ℕ) → isHead kind ≡ true → value (text f) 3 2 ≡ n → value (text f) 5 2 ≡ e → row23 n e (text f) kind 0 ≡ accepted
+unfolding row23
+counts-head f kind n e head its-n its-e = row-holds 23 0 (rw (head, eq-eqb _ _ its-n, eq-eqb _ _ its-e))
+
+-- and past the heads: line j is a node's or the end
+module _ (node : Layout) (j : ℕ) where
+  small-past : node .kind < 256 → (b : Bool) → cond b node endLayout .kind < 256
+  small-past h true = h
+  small-past h false = lit< tt
+
+  counts-past : isHead (node .kind) ≡ false → eqb (node .kind) 3 ≡ false → (n e : ℕ) (values : List ℕ) → n ≤ 4096 → (b : Bool)
+      → let l = cond b node endLayout in row23 n e (text (line l j (cond b values (n ∷ [])))) (l .kind) j ≡ accepted
+  unfolding row23
+  counts-past no-head no-end n e values few true = row-holds 23 j (rw (no-head, no-end))
+  counts-past no-head no-end n e values few false =
+      row-holds 23 j (eq-eqb _ _ (field-back (line endLayout j (n ∷ [])) 0 (lit< tt) (record { narrow = lit≤ tt; small = omega arith })))
+
+  settings-past : eqb (node .kind) 5 ≡ false → (p : Parameters) (sum : ℕ) (t : List ℕ) (b : Bool) → row25 p sum t (cond b node endLayout .kind) j ≡ accepted
+  unfolding row25
+  settings-past other p sum t true = row-holds 25 j (rw other)
+  settings-past other p sum t false = row-holds 25 j refl
 
 -- a text starts as its first line does
 starts-first : (a b k : ℕ) (t : List ℕ) → starts a b (take (suc (suc k)) t) ≡ starts a b t
@@ -80,30 +115,18 @@ module _ (s : Saved) where
   small-kind2 : (j : ℕ) → layoutAt edition2 (s .n) j .kind < 256
   small-kind2 zero = lit< tt
   small-kind2 (suc zero) = lit< tt
-  small-kind2 (suc (suc i)) = go (ltb i (s .n))
-    where
-      go : (b : Bool) → cond b node2 endLayout .kind < 256
-      go true = lit< tt
-      go false = lit< tt
+  small-kind2 (suc (suc i)) = small-past node2 (suc (suc i)) (lit< tt) (ltb i (s .n))
 
   -- a run whose numbers the fields can hold
   module _ (few : s .n ≤ 4096) (few-triangles : s .e < 65536) (small : s .sum < 256 ^ 8) (sp : StorableParameters (s .p)) where
     counts-2 : (j : ℕ) → row23 (s .n) (s .e) (text (lineOf edition2 (s .n) (values2 s) j)) (layoutAt edition2 (s .n) j .kind) j ≡ accepted
     unfolding row23
     counts-2 zero =
-        let f = line head2 0 (s .n ∷ s .e ∷ s .clock .step ∷ []) in
-        let its-n : value (text f) 3 2 ≡ s .n = field-back f 0 (lit< tt) (record { narrow = lit≤ tt; small = omega arith }) in
-        let its-e : value (text f) 5 2 ≡ s .e = field-back f 1 (lit< tt) (record { narrow = lit≤ tt; small = few-triangles }) in
-        row-holds 23 0 (rw (eq-eqb _ _ its-n, eq-eqb _ _ its-e))
+        let f = lineOf edition2 (s .n) (values2 s) 0 in
+        let its-n = field-back f 0 (lit< tt) (record { narrow = lit≤ tt; small = omega arith }) in
+        counts-head f 4 (s .n) (s .e) refl its-n (field-back f 1 (lit< tt) (record { narrow = lit≤ tt; small = few-triangles }))
     counts-2 (suc zero) = row-holds 23 1 refl
-    counts-2 (suc (suc i)) = go (ltb i (s .n))
-      where
-        go : (b : Bool) → let l = cond b node2 endLayout in
-            row23 (s .n) (s .e) (text (line l (suc (suc i)) (cond b (stateValues (s .n) (s .state) i) (s .n ∷ [])))) (l .kind) (suc (suc i)) ≡ accepted
-        go true = row-holds 23 (suc (suc i)) refl
-        go false =
-            let f = line endLayout (suc (suc i)) (s .n ∷ []) in
-            row-holds 23 (suc (suc i)) (eq-eqb _ _ (field-back f 0 (lit< tt) (record { narrow = lit≤ tt; small = omega arith })))
+    counts-2 (suc (suc i)) = counts-past node2 (suc (suc i)) refl refl (s .n) (s .e) (stateValues (s .n) (s .state) i) few (ltb i (s .n))
 
     settings-2 : (j : ℕ) → row25 (s .p) (s .sum) (text (lineOf edition2 (s .n) (values2 s) j)) (layoutAt edition2 (s .n) j .kind) j ≡ accepted
     unfolding row25
@@ -116,27 +139,17 @@ module _ (s : Saved) where
         let c : value (text f) 27 8 ≡ bits (s .p .f) = field-back f 3 (lit< tt) (record { narrow = lit≤ tt; small = pattern-fits _ (sp .f) }) in
         let areas : value (text f) 35 8 ≡ s .sum = field-back f 4 (lit< tt) (record { narrow = lit≤ tt; small = small }) in
         row-holds 25 1 (rw (eq-eqb _ _ dt, eq-eqb _ _ tau, eq-eqb _ _ k, eq-eqb _ _ c, eq-eqb _ _ areas))
-    settings-2 (suc (suc i)) = go (ltb i (s .n))
-      where
-        go : (b : Bool) → let l = cond b node2 endLayout in
-            row25 (s .p) (s .sum) (text (line l (suc (suc i)) (cond b (stateValues (s .n) (s .state) i) (s .n ∷ [])))) (l .kind) (suc (suc i)) ≡ accepted
-        go true = row-holds 25 (suc (suc i)) refl
-        go false = row-holds 25 (suc (suc i)) refl
+    settings-2 (suc (suc i)) = settings-past node2 (suc (suc i)) refl (s .p) (s .sum) _ (ltb i (s .n))
 
     -- no line of a save's text is refused
     pub lines-fine : (j : ℕ) → j < lineCount edition2 (s .n) → lineRows edition2 (s .n) t2 (s .e) (s .sum) (s .p) j ≡ accepted
-    unfolding lineRows
-    lines-fine j h =
-        rw (fault-fine edition2 (s .n) (values2 s) (fit2 s) j h (small-kind2 j) (omega arith), found2 j h)
-        (then-next accepted _ refl ∙ rw (counts-2 j) (then-next accepted _ refl ∙ settings-2 j))
+    lines-fine j h = rows-fine edition2 (s .n) (values2 s) (fit2 s) (s .e) (s .sum) (s .p) counts-2 settings-2 j h (small-kind2 j) (omega arith)
 
   -- the clock that is read of a save's text is the one that was saved
   pub clock-back : StorableClock (s .clock) → clockIn edition2 (s .n) t2 ≡ s .clock
-  unfolding clockIn
   clock-back c =
-      let f = line head2 0 (s .n ∷ s .e ∷ s .clock .step ∷ []) in
-      let its-step : value (text f) 7 4 ≡ s .clock .step = field-back f 2 (lit< tt) (record { narrow = lit≤ tt; small = c .step }) in
-      rw (found2 0 (omega arith)) (λ i. record { step = its-step i })
+      let f = lineOf edition2 (s .n) (values2 s) 0 in
+      step-found edition2 (s .n) (values2 s) (fit2 s) (s .clock .step) (omega arith) (field-back f 2 (lit< tt) (record { narrow = lit≤ tt; small = c .step }))
 
   module _ (ss : StorableState (s .n) (s .state)) (h : List Float) where
     -- the values of node i that are read of a save's text are those that the state has there
@@ -183,48 +196,29 @@ module _ (n e : ℕ) (state : List Float) (step : ℕ) (w : Wind) where
 
   small-kind1 : (j : ℕ) → layoutAt edition1 n j .kind < 256
   small-kind1 zero = lit< tt
-  small-kind1 (suc i) = go (ltb i n)
-    where
-      go : (b : Bool) → cond b node1 endLayout .kind < 256
-      go true = lit< tt
-      go false = lit< tt
+  small-kind1 (suc i) = small-past node1 (suc i) (lit< tt) (ltb i n)
 
   module _ (few : n ≤ 4096) (few-triangles : e < 65536) where
     counts-1 : (j : ℕ) → row23 n e (text (lineOf edition1 n v1 j)) (layoutAt edition1 n j .kind) j ≡ accepted
-    unfolding row23
     counts-1 zero =
         let f = lineOf edition1 n v1 0 in
-        let its-n : value (text f) 3 2 ≡ n = field-back f 0 (lit< tt) (record { narrow = lit≤ tt; small = omega arith }) in
-        let its-e : value (text f) 5 2 ≡ e = field-back f 1 (lit< tt) (record { narrow = lit≤ tt; small = few-triangles }) in
-        row-holds 23 0 (rw (eq-eqb _ _ its-n, eq-eqb _ _ its-e))
-    counts-1 (suc i) = go (ltb i n)
-      where
-        go : (b : Bool) → let l = cond b node1 endLayout in row23 n e (text (line l (suc i) (cond b (stateValues1 n state i) (n ∷ [])))) (l .kind) (suc i) ≡ accepted
-        go true = row-holds 23 (suc i) refl
-        go false = row-holds 23 (suc i) (eq-eqb _ _ (field-back (line endLayout (suc i) (n ∷ [])) 0 (lit< tt) (record { narrow = lit≤ tt; small = omega arith })))
+        let its-n = field-back f 0 (lit< tt) (record { narrow = lit≤ tt; small = omega arith }) in
+        counts-head f 1 n e refl its-n (field-back f 1 (lit< tt) (record { narrow = lit≤ tt; small = few-triangles }))
+    counts-1 (suc i) = counts-past node1 (suc i) refl refl n e (stateValues1 n state i) few (ltb i n)
 
     -- 25 is asked of no line
-    settings-1 : (p : Parameters) (sum : ℕ) (t : List ℕ) (j : ℕ) → row25 p sum t (layoutAt edition1 n j .kind) j ≡ accepted
+    settings-1 : (p : Parameters) (sum : ℕ) (j : ℕ) → row25 p sum (text (lineOf edition1 n v1 j)) (layoutAt edition1 n j .kind) j ≡ accepted
     unfolding row25
-    settings-1 p sum t zero = row-holds 25 0 refl
-    settings-1 p sum t (suc i) = go (ltb i n)
-      where
-        go : (b : Bool) → row25 p sum t (cond b node1 endLayout .kind) (suc i) ≡ accepted
-        go true = row-holds 25 (suc i) refl
-        go false = row-holds 25 (suc i) refl
+    settings-1 p sum zero = row-holds 25 0 refl
+    settings-1 p sum (suc i) = settings-past node1 (suc i) refl p sum _ (ltb i n)
 
     pub lines-fine1 : (p : Parameters) (sum j : ℕ) → j < lineCount edition1 n → lineRows edition1 n t1 e sum p j ≡ accepted
-    unfolding lineRows
-    lines-fine1 p sum j h =
-        rw (fault-fine edition1 n v1 (fit1 n e state step w) j h (small-kind1 j) (omega arith), found1 j h)
-        (then-next accepted _ refl ∙ rw (counts-1 j) (then-next accepted _ refl ∙ settings-1 p sum _ j))
+    lines-fine1 p sum j h = rows-fine edition1 n v1 (fit1 n e state step w) e sum p counts-1 (settings-1 p sum) j h (small-kind1 j) (omega arith)
 
   pub clock-back1 : step < 256 ^ 4 → clockIn edition1 n t1 ≡ record { step = step }
-  unfolding clockIn
   clock-back1 c =
       let f = lineOf edition1 n v1 0 in
-      let its-step : value (text f) 7 4 ≡ step = field-back f 2 (lit< tt) (record { narrow = lit≤ tt; small = c }) in
-      rw (found1 0 (omega arith)) (λ i. record { step = its-step i })
+      step-found edition1 n v1 (fit1 n e state step w) step (omega arith) (field-back f 2 (lit< tt) (record { narrow = lit≤ tt; small = c }))
 
   module _ (values : (j : ℕ) → j < 4 * n → T (fits binary64 (getD state j nan))) (fx : T (fits binary64 (w .x))) (fy : T (fits binary64 (w .y))) (h : List Float) where
     pub node-back1 : (i : ℕ) → i < n → nodeOf n h (withWind n state w) i ≡ nodeIn edition1 n t1 h i
@@ -243,6 +237,3 @@ module _ (n e : ℕ) (state : List Float) (step : ℕ) (w : Wind) where
           wx = sym (float-field o 3 (lit< tt) (w .x) refl fx) j;
           wy = sym (float-field o 4 (lit< tt) (w .y) refl fy) j;
         })
-
-    pub state-back1 : stateIn edition1 n t1 h ≡ withWind n state w
-    state-back1 = sym (loaded-all edition1 n t1 h (withWind n state w) (runs-length n _) node-back1)

@@ -20,17 +20,18 @@ use Rattle.mesh.specs.Lent.{Mesh, N, E}
 use Rattle.areas.specs.Areas.{sumD}
 use Rattle.areas.proofs.AreaLaws.{sum-small}
 use Rattle.surge.specs.Lent.{After, after}
-use Rattle.bounds.specs.State.{stateRuns, runRows}
+use Rattle.bounds.specs.State.{stateRuns, nodeOf, runRows}
 use Rattle.bounds.proofs.StateLaws.{AcceptedRun, accepted-run}
-use Rattle.saves.specs.Lines.{Edition, edition1, edition2, layoutAt, lineCount, lineOf, saveLength}
+use Rattle.saves.specs.Lines.{Edition, Values, edition1, edition2, layoutAt, lineCount, lineOf, textOf, saveLength}
 use Rattle.saves.specs.Save.{Saved, savedOf, values1, values2, saveText, saveText1, withWind, saveAnswer, wrote, saveOf}
-use Rattle.saves.proofs.LineLaws.{fit1, fit2, line-long}
+use Rattle.saves.proofs.LineLaws.{Fitting, fit1, fit2, line-long}
 use Rattle.saves.proofs.SaveLaws.{save-writes, save-accepts, save-answered, save-text}
 use Rattle.loads.specs.Storable.{StorableClock, StorableState, StorableParameters}
-use Rattle.loads.specs.Load.{editionOf, row10In, lineRows, trailingRow, clockIn, rowsIn, loadAnswer, stateIn, loadOf}
+use Rattle.loads.specs.Load.{editionOf, row10In, lineRows, trailingRow, clockIn, nodeIn, rowsIn, loadAnswer, stateIn, loadOf}
+use Rattle.loads.proofs.NodeLaws.{loaded-all}
 use Rattle.loads.proofs.LoadLaws.{load-took, loaded-rows}
 use Rattle.loads.proofs.StorableLaws.{clock-storable, state-storable}
-use Rattle.loads.proofs.BackLaws.{edition-1, edition-2, lines-fine, lines-fine1, clock-back, clock-back1, node-back, node-back1, state-back, state-back1}
+use Rattle.loads.proofs.BackLaws.{edition-1, edition-2, lines-fine, lines-fine1, clock-back, clock-back1, node-back, node-back1, state-back}
 
 -- two runs of N nodes whose saves have the same text are the same run
 pub same-text : (a b : Saved) → a .n ≡ b .n → StorableState (a .n) (a .state) → StorableState (b .n) (b .state) → StorableClock (a .clock) → StorableClock (b .clock)
@@ -60,40 +61,42 @@ unfolding loadOf
 load-gives m p t old clock ok ek es = rw (← ok) (λ i. after (record { answer = accepted; clock = ek i }) (es i))
 
 module _ (m : Mesh) (p : Parameters) (old : List Float) (long : length old ≡ stateRuns * N m) where
-  -- ---- a save's own text is loaded, over any state of the right length
-  module _ (state : List Float) (k : Clock) (s : StorableState (N m) state) (c : StorableClock k) (sp : StorableParameters p) where
-    abbrev t2 : List ℕ
-    t2 = saveText (savedOf m p state k)
+  -- ---- the lines that were written of a run that its rows accept, in either edition, are loaded to that run, over any state of the right length
+  module _ (d : Edition) (v : Values) (fit : Fitting d (N m) v) (its-edition : editionOf (textOf d (N m) v) ≡ d) (state : List Float) (k : Clock)
+      (its : AcceptedRun accepted m p state) where
+    abbrev t : List ℕ
+    t = textOf d (N m) v
 
-    no-more2 : length t2 ≤ startOf (layoutAt edition2 (N m)) (lineCount edition2 (N m))
-    no-more2 =
-        let v = values2 (savedOf m p state k) in
-        rw (lines-long (layoutAt edition2 (N m)) (lineOf edition2 (N m) v) (line-long edition2 (N m) v (fit2 (savedOf m p state k))) (lineCount edition2 (N m))) (omega arith)
+    no-more : length t ≤ startOf (layoutAt d (N m)) (lineCount d (N m))
+    no-more = rw (lines-long (layoutAt d (N m)) (lineOf d (N m) v) (line-long d (N m) v fit) (lineCount d (N m))) (omega arith)
 
-    module _ (ok : runRows accepted m p state .number ≡ 0) where
-      its : AcceptedRun accepted m p state
-      its = accepted-run _ _ _ _ ok
+    module _ (lines : (j : ℕ) → j < lineCount d (N m) → lineRows d (N m) t (E m) (sumD m) p j ≡ accepted)
+        (nodes : (i : ℕ) → i < N m → nodeOf (N m) (m .h) state i ≡ nodeIn d (N m) t (m .h) i) where
+      node-fine : (i : ℕ) → i < N m → row10In d (N m) t (m .h) i .number ≡ 0
+      node-fine i b = passed (row-holds 10 i (rw (← nodes i b) (its .bounds i b)))
 
-      node-fine : (i : ℕ) → i < N m → row10In edition2 (N m) t2 (m .h) i .number ≡ 0
-      node-fine i b = ap (λ (a : Answer). a .number) (row-holds 10 i (rw (← node-back (savedOf m p state k) s (m .h) i b) (its .bounds i b)))
-
-      -- where a save's rows accept the run, a load accepts its text
-      load-fine : accepted ≡ loadAnswer m p t2 old
+      load-fine : accepted ≡ loadAnswer m p t old
       unfolding loadAnswer
       load-fine =
-          let sized = its .shape .sized in
-          let fine = lines-fine (savedOf m p state k) (sized .most-nodes) (omega (arith, sized .most-triangles)) (sum-small m (its .shape)) sp in
           goes _ (rw (row-holds 1 0 (eq-eqb _ _ long)) (its .mesh))
-          (subst (λ (d : Edition). accepted ≡ rowsIn d (N m) t2 (E m) (sumD m) p (m .h)) (sym (edition-2 (savedOf m p state k)))
-          (text-fine m p edition2 t2 fine no-more2 node-fine))
+          (subst (λ (d′ : Edition). accepted ≡ rowsIn d′ (N m) t (E m) (sumD m) p (m .h)) (sym its-edition) (text-fine m p d t lines no-more node-fine))
 
-      -- and gives the run that was saved: its clock and its state
-      pub load-own : (clock : Clock) → loadOf m p t2 old clock ≡ after (record { answer = accepted; clock = k }) state
-      load-own clock =
-          let two = edition-2 (savedOf m p state k) in
-          load-gives m p t2 old clock load-fine
-          (ap (λ (d : Edition). clockIn d (N m) t2) two ∙ clock-back (savedOf m p state k) c)
-          (ap (λ (d : Edition). stateIn d (N m) t2 (m .h)) two ∙ state-back (savedOf m p state k) s (m .h))
+      load-held : clockIn d (N m) t ≡ k → (clock : Clock) → loadOf m p t old clock ≡ after (record { answer = accepted; clock = k }) state
+      load-held its-clock clock =
+          load-gives m p t old clock load-fine
+          (ap (λ (d′ : Edition). clockIn d′ (N m) t) its-edition ∙ its-clock)
+          (ap (λ (d′ : Edition). stateIn d′ (N m) t (m .h)) its-edition ∙ sym (loaded-all d (N m) t (m .h) state (its .long) nodes))
+
+  module _ (state : List Float) (k : Clock) (s : StorableState (N m) state) (c : StorableClock k) (sp : StorableParameters p) where
+    -- a save's own text
+    pub load-own : runRows accepted m p state .number ≡ 0 → (clock : Clock)
+        → loadOf m p (saveText (savedOf m p state k)) old clock ≡ after (record { answer = accepted; clock = k }) state
+    load-own ok =
+        let its = accepted-run _ _ _ _ ok in
+        let run = savedOf m p state k in
+        let sized = its .shape .sized in
+        let lines = lines-fine run (sized .most-nodes) (omega (arith, sized .most-triangles)) (sum-small m (its .shape)) sp in
+        load-held edition2 (values2 run) (fit2 run) (edition-2 run) state k its lines (node-back run s (m .h)) (clock-back run c)
 
     -- ---- a save and a load
     module _ (t : List ℕ) (done : saveOf m p state k t .answer .number ≡ 0) where
@@ -103,43 +106,17 @@ module _ (m : Mesh) (p : Parameters) (old : List Float) (long : length old ≡ s
       unfolding saveAnswer
       saved-loaded clock = rw (save-text m p state k t done) (load-own (then-first _ _ (save-answered m p state k t done)) clock)
 
-  -- ---- the text of document 01's own rules, for a run with one wind
-  module _ (state : List Float) (step : ℕ) (w : Wind) where
-    abbrev t1 : List ℕ
-    t1 = saveText1 (N m) (E m) state step w
-
-    abbrev new : List Float
-    new = withWind (N m) state w
-
-    no-more1 : length t1 ≤ startOf (layoutAt edition1 (N m)) (lineCount edition1 (N m))
-    no-more1 =
-        let v = values1 (N m) (E m) state step w in
-        rw (lines-long (layoutAt edition1 (N m)) (lineOf edition1 (N m) v) (line-long edition1 (N m) v (fit1 (N m) (E m) state step w)) (lineCount edition1 (N m))) (omega arith)
-
-    module _ (values : (j : ℕ) → j < 4 * N m → T (fits binary64 (getD state j nan))) (fx : T (fits binary64 (w .x))) (fy : T (fits binary64 (w .y))) (few : step < 256 ^ 4)
-        (ok : runRows accepted m p new .number ≡ 0) where
-      its1 : AcceptedRun accepted m p new
-      its1 = accepted-run _ _ _ _ ok
-
-      node-fine1 : (i : ℕ) → i < N m → row10In edition1 (N m) t1 (m .h) i .number ≡ 0
-      node-fine1 i b = ap (λ (a : Answer). a .number) (row-holds 10 i (rw (← node-back1 (N m) (E m) state step w values fx fy (m .h) i b) (its1 .bounds i b)))
-
-      load-fine1 : accepted ≡ loadAnswer m p t1 old
-      unfolding loadAnswer
-      load-fine1 =
-          let sized = its1 .shape .sized in
-          let fine = lines-fine1 (N m) (E m) state step w (sized .most-nodes) (omega (arith, sized .most-triangles)) p (sumD m) in
-          goes _ (rw (row-holds 1 0 (eq-eqb _ _ long)) (its1 .mesh))
-          (subst (λ (d : Edition). accepted ≡ rowsIn d (N m) t1 (E m) (sumD m) p (m .h)) (sym (edition-1 (N m) (E m) state step w))
-          (text-fine m p edition1 t1 fine no-more1 node-fine1))
-
-      -- is loaded to that run, with that wind at every node
-      pub load-old : (clock : Clock) → loadOf m p t1 old clock ≡ after (record { answer = accepted; clock = record { step = step } }) new
-      load-old clock =
-          let one = edition-1 (N m) (E m) state step w in
-          load-gives m p t1 old clock load-fine1
-          (ap (λ (d : Edition). clockIn d (N m) t1) one ∙ clock-back1 (N m) (E m) state step w few)
-          (ap (λ (d : Edition). stateIn d (N m) t1 (m .h)) one ∙ state-back1 (N m) (E m) state step w values fx fy (m .h))
+  -- ---- the text of document 01's own rules, for a run with one wind: that wind at every node
+  module _ (state : List Float) (step : ℕ) (w : Wind) (values : (j : ℕ) → j < 4 * N m → T (fits binary64 (getD state j nan))) (fx : T (fits binary64 (w .x)))
+      (fy : T (fits binary64 (w .y))) (few : step < 256 ^ 4) where
+    pub load-old : runRows accepted m p (withWind (N m) state w) .number ≡ 0 → (clock : Clock)
+        → loadOf m p (saveText1 (N m) (E m) state step w) old clock ≡ after (record { answer = accepted; clock = record { step = step } }) (withWind (N m) state w)
+    load-old ok =
+        let its = accepted-run _ _ _ _ ok in
+        let sized = its .shape .sized in
+        let lines = lines-fine1 (N m) (E m) state step w (sized .most-nodes) (omega (arith, sized .most-triangles)) p (sumD m) in
+        load-held edition1 (values1 (N m) (E m) state step w) (fit1 (N m) (E m) state step w) (edition-1 (N m) (E m) state step w) (withWind (N m) state w)
+        (record { step = step }) its lines (node-back1 (N m) (E m) state step w values fx fy (m .h)) (clock-back1 (N m) (E m) state step w few)
 
 -- ---- what an accepted load of either edition gives
 -- the run that a load leaves is saved into a text, and that is loaded over another run and gives it back

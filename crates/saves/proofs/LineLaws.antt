@@ -71,22 +71,20 @@ Fitting d n v = (j : ℕ) → length (valuesFrom (v .heads) (v .node) n j) ≡ l
 pub line-long : (d : Edition) (n : ℕ) (v : Values) → Fitting d n v → (j : ℕ) → length (text (lineOf d n v j)) ≡ due (layoutAt d n) j + 1
 line-long d n v fit j = text-length (lineOf d n v j) ∙ ap (λ (ws : List ℕ). digitsOf ws + 1) (all-laid (layoutAt d n j .widths) _ (fit j))
 
+-- past the heads: a node's line or the end
+fit-past : (node : Layout) (n : ℕ) (values : List ℕ) → length values ≡ length (node .widths) → (b : Bool)
+    → length (cond b values (n ∷ [])) ≡ length (cond b node endLayout .widths)
+fit-past node n values e true = e
+fit-past node n values e false = refl
+
 pub fit2 : (s : Saved) → Fitting edition2 (s .n) (values2 s)
 fit2 s zero = refl
 fit2 s (suc zero) = refl
-fit2 s (suc (suc i)) = go (ltb i (s .n))
-  where
-    go : (b : Bool) → length (cond b (stateValues (s .n) (s .state) i) (s .n ∷ [])) ≡ length (cond b node2 endLayout .widths)
-    go true = refl
-    go false = refl
+fit2 s (suc (suc i)) = fit-past node2 (s .n) (stateValues (s .n) (s .state) i) refl (ltb i (s .n))
 
 pub fit1 : (n e : ℕ) (state : List Float) (step : ℕ) (w : Wind) → Fitting edition1 n (values1 n e state step w)
 fit1 n e state step w zero = refl
-fit1 n e state step w (suc i) = go (ltb i n)
-  where
-    go : (b : Bool) → length (cond b (stateValues1 n state i) (n ∷ [])) ≡ length (cond b node1 endLayout .widths)
-    go true = refl
-    go false = refl
+fit1 n e state step w (suc i) = fit-past node1 n (stateValues1 n state i) refl (ltb i n)
 
 -- ---- edition 2's node lines and its end line, by their number
 pub node-line : (s : Saved) (j : ℕ) → 2 ≤ j → j ≤ s .n + 1 → line node2 (j - 2 + 2) (stateValues (s .n) (s .state) (j - 2)) ≡ lineOf edition2 (s .n) (values2 s) j

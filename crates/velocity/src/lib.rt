@@ -44,7 +44,8 @@ fn flow(run: Parameters, node: Push) -> Flow
     Flow { u, v }
 }
 
-// U' and V' of a node, from the wind that it holds and its new one, its sum S, its z', Px and Py, Au and Av. A held land node's are chosen last, so that the loop over the nodes has no branch.
+// U' and V' of a node, from what it holds and its new wind, its sum S, its z', Px and Py, Au and Av. A held land node's are chosen last, so that the loop
+// over the nodes has no branch.
 pub fn flow_of(
     run: Parameters,
     kind: u8,

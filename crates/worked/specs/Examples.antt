@@ -79,7 +79,7 @@ stepping number =
     let o = stepOf T T-parameters (run (coldState 3) (record { step = number })) (zeros 7) T-rooms in
     stepped (o .reply .answer) (o .reply .clock .step)
 
--- line j of a cold save of T, its first j lines, and the whole, in each edition
+-- line j of a cold save of T, and the whole text, in each edition
 abbrev pub old-line : ℕ → Frame
 old-line = lineOf edition1 3 (values1 3 1 (coldState 3) 0 (record { x = plus0; y = plus0 }))
 
