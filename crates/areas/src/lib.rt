@@ -1,36 +1,10 @@
 // The sum of all D of a mesh.
-use geometry::Corners;
-use geometry::Places;
 use geometry::WholeSides;
 ghost use mathlib.Core.Path.{_≡_};
 ghost use Prim.Native.Nat.{_/_, _<_};
-ghost use lib.IntN.{pos};
-ghost use lib.ListN.{length, getD};
+ghost use lib.ListN.{length};
 ghost use Rattle.geometry.specs.Geometry.{nearD};
-ghost use Rattle.geometry.specs.Private.{nodesOf};
-ghost use Rattle.mesh.specs.Private.{placesOf};
 ghost use Rattle.areas.specs.Areas.{above, counted, countedSum};
-
-// A node's coordinate, and 0 where there is no such node: no row has been asked of these slices, and nothing is asked of the caller.
-fn coordinate(of: &[i32], i: usize) -> i32
-    ensures { λ r. ⌜ r ≡ getD (now (of .entry)) i (pos 0) ⌝ }
-{
-    if i < of.len() { of[i] } else { 0 }
-}
-
-// The coordinates of a triangle's corners.
-fn places_at(x: &[i32], y: &[i32], c: Corners) -> Places
-    ensures { λ r. ⌜ r ≡ placesOf (now (x .entry)) (now (y .entry)) (nodesOf c) ⌝ }
-{
-    Places {
-        x1: coordinate(x, c.n1),
-        x2: coordinate(x, c.n2),
-        x3: coordinate(x, c.n3),
-        y1: coordinate(y, c.n1),
-        y2: coordinate(y, c.n2),
-        y3: coordinate(y, c.n3),
-    }
-}
 
 // D as a count. One of 0 or less, which row 5 refuses, counts nothing, so that the sum never goes down.
 fn count_of(s: WholeSides) -> u64
@@ -46,7 +20,7 @@ fn counted_at(x: &[i32], y: &[i32], tri: &[u16], t: usize) -> u64
     ensures { λ r. ⌜ r ≡ counted (now (x .entry)) (now (y .entry)) (now (tri .entry)) t ⌝ }
 {
     let c = mesh::reading::corners_at(tri, t);
-    count_of(geometry::sides_of(places_at(x, y, c)))
+    count_of(geometry::sides_of(mesh::reading::places_at(x, y, c)))
 }
 
 // The sum of all D, each triangle once. A mesh has at most 8,192 of them: with no more, no sum of counts goes beyond 64 bits.

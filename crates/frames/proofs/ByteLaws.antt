@@ -4,11 +4,12 @@ use mathlib.Core.Path.{_≡_, refl, sym, ap, _∙_}
 use mathlib.Core.List.{List, [], _∷_, _++_}
 use mathlib.Core.Bool.{Bool, true, false}
 use mathlib.Core.Logic.{_⊎_, inr, ⊎-elim}
-use native.Mathlib.Nat.{pow-suc, pow-zero, mul-assoc, mod-lt, div-lt-iff-lt-mul, div-add-mod', lt-of-lt-of-le, pow-le-pow-right}
+use native.Mathlib.Nat.{pow-suc, pow-zero, zero-mul, add-mul, mul-assoc, mod-lt, div-lt-iff-lt-mul, div-add-mod', lt-of-lt-of-le, pow-le-pow-right}
 use native.Mathlib.Numerals.{add-one}
 use native.Mathlib.Omega.{arith}
 use borrow.Author.Tests.{lt-ltb, ltb-true, ltb-false, eqb-true}
 use lib.Dec.{lit<, ltb, eqb}
+use lib.Pow.{pow-add}
 use lib.ListN.{length, take, drop, getD, length-append, length-drop}
 use lib.Seq.{take-suc, take-all, take-take, getD-drop}
 use Rattle.rows.specs.Scan.{row, _then_, scan}
@@ -101,14 +102,19 @@ bytes-small (a ∷ []) k = lit< tt
 bytes-small (a ∷ b ∷ s) zero = omega arith
 bytes-small (a ∷ b ∷ s) (suc k) = bytes-small s k
 
--- ---- numbers, by their last byte
+-- ---- numbers, by the bytes that stand behind
+pub number-join : (a b : List ℕ) → number (a ++ b) ≡ number a * 256 ^ length b + number b
+unfolding number
+number-join [] b = rw zero-mul (omega arith)
+number-join (x ∷ a) b =
+    let e = number-join a b in
+    let m = 256 ^ length a in
+    let n = 256 ^ length b in
+    rw (length-append a b, pow-add 256 (length a) (length b), add-mul (x * m) (number a) n, mul-assoc x m n) (omega arith)
+
 number-last : (bs : List ℕ) (b : ℕ) → number (bs ++ (b ∷ [])) ≡ number bs * 256 + b
 unfolding number
-number-last [] b = omega (arith, pow-zero 256)
-number-last (x ∷ bs) b =
-    let e = number-last bs b in
-    let n : length (bs ++ (b ∷ [])) ≡ suc (length bs) = length-append bs (b ∷ []) ∙ add-one (length bs) in
-    rw (n, pow-suc, ← mul-assoc) (omega arith)
+number-last bs b = number-join bs (b ∷ []) ∙ omega arith
 
 -- one byte more of a field
 pub number-more : (bs : List ℕ) (at k : ℕ) → at + k < length bs

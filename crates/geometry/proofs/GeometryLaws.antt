@@ -22,7 +22,7 @@ pub record Near (s : WholeSides) : Type 0 where
   pub b2 : natAbs (s .b2) ≤ 100000
   pub b3 : natAbs (s .b3) ≤ 100000
 
-near-all : (s : WholeSides) → allNear s ≡ true → Near s
+pub near-all : (s : WholeSides) → allNear s ≡ true → Near s
 unfolding allNear
 near-all s e =
     let e5 = both-left (near (s .a1) && near (s .a2) && near (s .a3) && near (s .b1) && near (s .b2)) (near (s .b3)) e in

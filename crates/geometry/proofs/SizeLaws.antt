@@ -84,9 +84,12 @@ gap-fits x y fx fy = record {
   d64 = holds w64 (x -ℤ y) (omega (arith, size-minus x y, held-size w32 x fx, held-size w32 y fy));
 }
 
--- ---- a value that a call handed on as 64 bits
+-- ---- a value that a call handed on as bits, and as 64 of them
+pub kept-as : (w : Width) {r z : ℤ} → SFits w r → r ≡ z → toZ w (ofZ w r) ≡ z
+kept-as w fits e = toZ-ofZ {w = w} fits ∙ e
+
 pub kept : {r z : ℤ} → mag r < 2 ^ 63 → r ≡ z → toZ w64 (ofZ w64 r) ≡ z
-kept ok e = toZ-ofZ {w = w64} (record { sfits = ok }) ∙ e
+kept ok e = kept-as w64 (record { sfits = ok }) e
 
 -- ---- a whole number of at most 2^53 is a float without loss
 pub in-float : (z : ℤ) → natAbs z ≤ 2 ^ 53 → T (inFloat binary64 z)

@@ -1,13 +1,19 @@
 -- Document 01, "Triangle geometry", on single values.
+use Prim.Native.Nat.{ℕ}
 use mathlib.Core.Bool.{Bool, true, false, _&&_, cond}
 use lib.IntN.{ℤ, pos, negsuc, natAbs, _-ℤ_, _*ℤ_}
 use lib.Dec.{leb}
 use lib.Ieee.{binary64, ofInt}
 use lib.Ieee.Exact.{HasValue}
 use Rattle.lists.specs.Gather.{Three}
+use Rattle.geometry.specs.declared.Corners.{Corners}
 use Rattle.geometry.specs.declared.Places.{Places}
 use Rattle.geometry.specs.declared.WholeSides.{WholeSides}
 use Rattle.quantities.specs.declared.Sides.{Sides}
+
+-- the node numbers of three corners
+abbrev pub nodesOf : Corners → Three ℕ
+nodesOf c = record { first = c .n1; second = c .n2; third = c .n3 }
 
 -- the coordinates of three corners
 abbrev pub eastOf : Places → Three ℤ

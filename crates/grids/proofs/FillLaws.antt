@@ -14,7 +14,7 @@ use Rattle.rows.specs.Numbers.{decimal}
 use Rattle.rows.proofs.ScanLaws.{row-passed, then-first, then-rest, both-left, both-right}
 use Rattle.quantities.specs.Operations.{_⊘_}
 use Rattle.lists.specs.Private.{upTo}
-use Rattle.lists.proofs.TableLaws.{up-more, up-length}
+use Rattle.lists.proofs.TableLaws.{fill-more}
 use Rattle.grids.specs.Text.{lineOf, fieldOf}
 use Rattle.grids.specs.Numbers.{numberOf, signed, isMinus, unsigned, wholeOf, in32, isShort, thousandthsOf, depthOf, afterFirst}
 use Rattle.grids.specs.Grid.{nodeLineRows, isCorner, triangleLineRows, cornerIn}
@@ -34,14 +34,6 @@ module _ (i : ℕ) (u : List ℕ) {left : List ℕ} (at : left ≡ afterLines i 
 
   pub here-after : {next : List ℕ} → next ≡ afterFirst 10 left → next ≡ afterLines (i + 1) u
   here-after e = e ∙ ap (afterFirst 10) at ∙ sym (after-more i u)
-
--- ---- a room whose first places are filled
-module _ {A : Type 0} (i : ℕ) (f : ℕ → A) (l₀ : List A) {l : List A} (filled : l ≡ upTo i f l₀) where
-  pub fill-more : {v : A} → i < length l₀ → v ≡ f i → set l i v ≡ upTo (i + 1) f l₀
-  fill-more h e = (λ j. set (filled j) i (e j)) ∙ up-more i f l₀ h
-
-  pub fill-length : i ≤ length l₀ → length l ≡ length l₀
-  fill-length h = ap length filled ∙ up-length i f l₀ h
 
 exact : (m : Bool) (v : ℕ) → in32 (signed m v) ≡ true → capped v ≡ v
 exact m v e = omega (arith, size-32 m v e)

@@ -6,7 +6,7 @@ ghost use Prim.Native.Nat.{_+_, _*_, _/_, _%_, _<_};
 ghost use lib.ListN.{length};
 ghost use Rattle.lists.specs.Private.{Below};
 ghost use Rattle.rows.specs.Scan.{scan};
-ghost use Rattle.geometry.specs.Private.{nodesOf};
+ghost use Rattle.geometry.specs.Geometry.{nodesOf};
 ghost use Rattle.legs.specs.Legs.{isLeg, row6};
 ghost use Rattle.legs.specs.Private.{cornerOf};
 

@@ -9,7 +9,7 @@ use native.Mathlib.Numerals.{add-one}
 use mathlib.Core.Bool.{Bool, true, false, cond}
 use borrow.Author.Tests.{eqb-true, eqb-false}
 use lib.Dec.{eqb}
-use lib.ListN.{length, getD, set, length-set}
+use lib.ListN.{length, drop, getD, set, length-set}
 use lib.Seq.{ext-getD, getD-set-same, getD-set-other, take-length, drop-length}
 use Rattle.lists.specs.Table.{table, copied}
 use Rattle.lists.specs.Private.{upTo}
@@ -75,6 +75,23 @@ module _ {A : Type 0} where
   up-length (suc i) f [] h = absurd (not-suc-le-zero h)
   up-length (suc i) f (x ∷ l) h = ap suc (up-length i (λ k. f (suc k)) l (le-of-suc-le-suc h))
 
+  pub up-all : (f : ℕ → A) (l : List A) → upTo (length l) f l ≡ table (length l) f
+  unfolding upTo table
+  up-all f [] = refl
+  up-all f (x ∷ l) = ap (λ (t : List A). f zero ∷ t) (up-all (λ k. f (suc k)) l)
+
+  -- the same of the list that the loop has made
+  module _ (i : ℕ) (f : ℕ → A) (l₀ : List A) {l : List A} (filled : l ≡ upTo i f l₀) where
+    pub fill-more : {v : A} → i < length l₀ → v ≡ f i → set l i v ≡ upTo (i + 1) f l₀
+    fill-more h e = (λ j. set (filled j) i (e j)) ∙ up-more i f l₀ h
+
+    pub fill-length : i ≤ length l₀ → length l ≡ length l₀
+    fill-length h = ap length filled ∙ up-length i f l₀ h
+
+    -- once all n places are written
+    pub fill-all : {n : ℕ} → length l₀ ≡ n → i ≡ n → l ≡ table n f
+    fill-all h e = filled ∙ ap (λ (k : ℕ). upTo k f l₀) (e ∙ sym h) ∙ up-all f l₀ ∙ ap (λ (k : ℕ). table k f) h
+
   -- what is not yet written is as it was
   pub up-ahead : (i : ℕ) (f : ℕ → A) (l : List A) (k : ℕ) (d : A) → i ≤ k → i ≤ length l → getD (upTo i f l) k d ≡ getD l k d
   unfolding upTo table
@@ -82,11 +99,6 @@ module _ {A : Type 0} where
   up-ahead (suc i) f [] k d h g = absurd (not-suc-le-zero g)
   up-ahead (suc i) f (x ∷ l) zero d h g = absurd (not-suc-le-zero h)
   up-ahead (suc i) f (x ∷ l) (suc k) d h g = up-ahead i (λ j. f (suc j)) l k d (le-of-suc-le-suc h) (le-of-suc-le-suc g)
-
-  pub up-all : (f : ℕ → A) (l : List A) → upTo (length l) f l ≡ table (length l) f
-  unfolding upTo table
-  up-all f [] = refl
-  up-all f (x ∷ l) = ap (λ (t : List A). f zero ∷ t) (up-all (λ k. f (suc k)) l)
 
   -- ---- a copy
   -- all the places that both have are written in turn
@@ -102,6 +114,13 @@ module _ {A : Type 0} where
   up-copied d (x ∷ from) (y ∷ to) (suc n) h g e =
       ap (λ (t : List A). x ∷ t)
       (up-copied d from to n (le-of-suc-le-suc h) (le-of-suc-le-suc g) (⊎-elim (λ u. inl (le-of-suc-le-suc u)) (λ u. inr (le-of-suc-le-suc u)) e))
+
+  -- the same of a table
+  pub up-table : (m : ℕ) (f : ℕ → A) (to : List A) (n : ℕ) → n ≤ length to → n ≤ m → (length to ≤ n) ⊎ (m ≤ n) → upTo n f to ≡ copied (table m f) to
+  unfolding upTo
+  up-table m f to n h g e =
+      ap (λ (t : List A). t ++ drop n to) (table-same n f (λ i. getD (table m f) i (f 0)) (λ i k. sym (getD-table m f i (f 0) (omega arith))))
+      ∙ up-copied (f 0) (table m f) to n h (rw (length-table m f) g) (rw (length-table m f) e)
 
   -- between lists of one length it is the whole
   pub copied-whole : (from to : List A) → length to ≡ length from → copied from to ≡ from

@@ -1,6 +1,6 @@
 -- What each row's definition comes to, as the code that tests it has it.
 use Prim.Native.Nat.{ℕ}
-use mathlib.Core.Path.{_≡_, ap, _∙_}
+use mathlib.Core.Path.{_≡_, refl, ap, _∙_}
 use mathlib.Core.Bool.{true, false, _&&_}
 use mathlib.Core.List.{List}
 use borrow.Author.Tests.{ltb-true}
@@ -13,12 +13,16 @@ use Rattle.lists.specs.Gather.{Three}
 use Rattle.lists.specs.Private.{Below}
 use Rattle.rows.specs.Scan.{refused, row, _then_, scan}
 use Rattle.rows.proofs.ScanLaws.{then-assoc, both-left, both-right}
-use Rattle.mesh.specs.Lent.{Mesh, E, corners}
+use Rattle.mesh.specs.Lent.{Mesh, N, E, corners}
 use Rattle.geometry.specs.Geometry.{D, allNear}
 use Rattle.mesh.specs.Geometry.{sides}
-use Rattle.mesh.specs.Rows.{allBelow, row1, row2, row3, row4, row5, triangleRows, shapeRows}
+use Rattle.mesh.specs.Rows.{allBelow, row1, row2, row3, row4, row5, triangleRows, sizeRows, shapeRows}
 
--- ---- rows 1 to 5: rows 1 and 2 are asked together, and where they accept the rest decides
+-- ---- rows 1 to 5: rows 1 and 2 are asked together, of the lengths, and where they accept the rest decides
+pub sizes-of : (asked : Answer) (m : Mesh) → sizeRows asked (N m) (length (m .y)) (length (m .tri)) (length (m .h)) (length (m .kind)) ≡ (asked then row1 m then row2 m)
+unfolding sizeRows row1 row2
+sizes-of asked m = refl
+
 pub lent-first : (asked : Answer) (m : Mesh) → ((asked then row1 m then row2 m) then scan (triangleRows (m .x) (m .y) (m .tri)) (E m)) ≡ shapeRows asked m
 unfolding shapeRows
 lent-first asked m = then-assoc _ _ _ ∙ ap (λ (a : Answer). asked then a) (then-assoc _ _ _)

@@ -8,11 +8,9 @@ use lib.ListN.{length}
 use Rattle.lists.specs.Gather.{Three}
 use Rattle.geometry.specs.declared.Corners.{Corners}
 use Rattle.geometry.specs.declared.Places.{Places}
-use Rattle.geometry.specs.Geometry.{sidesAt}
-use Rattle.geometry.specs.Private.{nodesOf}
+use Rattle.geometry.specs.Geometry.{sidesAt, nodesOf}
 use Rattle.mesh.specs.Lent.{corners, cornersAt}
-use Rattle.mesh.specs.Geometry.{sides}
-use Rattle.mesh.specs.Private.{placesOf}
+use Rattle.mesh.specs.Geometry.{sides, placesOf}
 
 pub corners-read : (tri : List ℕ) (t : ℕ) {c : Corners} → t < length tri / 3 → c ≡ cornersAt tri t → nodesOf c ≡ corners tri t
 unfolding cornersAt

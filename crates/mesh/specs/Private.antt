@@ -1,27 +1,14 @@
--- What is read of a mesh, and what its rows leave of one that they accept, for laws and for the contracts of private functions. No public contract cites it.
+-- What the rows leave of a mesh that they accept, for laws and for the contracts of private functions. No public contract cites it.
 use Prim.Native.Nat.{ℕ, _*_, _<_, _≤_}
 use mathlib.Core.Path.{_≡_}
 use mathlib.Core.Bool.{true}
 use mathlib.Core.List.{List}
 use lib.IntN.{ℤ, pos}
 use lib.ListN.{length}
-use Rattle.lists.specs.Gather.{Three}
 use Rattle.lists.specs.Private.{Below}
-use Rattle.geometry.specs.declared.Places.{Places}
 use Rattle.geometry.specs.Geometry.{D, allNear}
 use Rattle.mesh.specs.Lent.{Mesh, N, E, corners}
-use Rattle.mesh.specs.Geometry.{at, sides, area}
-
--- the coordinates of three nodes
-abbrev pub placesOf : List ℤ → List ℤ → Three ℕ → Places
-placesOf x y c = record {
-  x1 = at x c .first;
-  x2 = at x c .second;
-  x3 = at x c .third;
-  y1 = at y c .first;
-  y2 = at y c .second;
-  y3 = at y c .third;
-}
+use Rattle.mesh.specs.Geometry.{sides, area}
 
 -- rows 1 and 2: the lengths and the counts
 pub record Sized (m : Mesh) : Type 0 where

@@ -1,5 +1,5 @@
 -- Document 01, "Refusal table": the mesh's own rows, 1 to 5, each under its line of the table, and their order.
-use Prim.Native.Nat.{ℕ, _%_}
+use Prim.Native.Nat.{ℕ, _/_, _%_}
 use mathlib.Core.Bool.{Bool, _&&_}
 use mathlib.Core.List.{List}
 use lib.IntN.{ℤ, pos}
@@ -13,13 +13,24 @@ use Rattle.mesh.specs.Lent.{Mesh, N, E, corners}
 use Rattle.mesh.specs.Geometry.{sides}
 use Rattle.geometry.specs.Geometry.{D, allNear}
 
--- | 1 | triangle list no multiple of 3, or a slice of another length |: of the mesh's slices. Each call tests it of the others that it is lent
+-- | 1 | triangle list no multiple of 3, or a slice of another length |: of the mesh's slices, by their lengths. Each call tests it of the others that it is
+-- lent
+abbrev pub lengthRow : ℕ → ℕ → ℕ → ℕ → ℕ → Answer
+lengthRow n y tri h kind = row (eqb y n && eqb h n && eqb kind n && eqb (tri % 3) 0) 1 0
+
 unfoldable pub row1 : Mesh → Answer
-row1 m = row (eqb (length (m .y)) (N m) && eqb (length (m .h)) (N m) && eqb (length (m .kind)) (N m) && eqb (length (m .tri) % 3) 0) 1 0
+row1 m = lengthRow (N m) (length (m .y)) (length (m .tri)) (length (m .h)) (length (m .kind))
 
 -- | 2 | N not 3..4,096 or E not 1..8,192 |
+abbrev pub countRow : ℕ → ℕ → Answer
+countRow n e = row (leb 3 n && leb n 4096 && leb 1 e && leb e 8192) 2 0
+
 unfoldable pub row2 : Mesh → Answer
-row2 m = row (leb 3 (N m) && leb (N m) 4096 && leb 1 (E m) && leb (E m) 8192) 2 0
+row2 m = countRow (N m) (E m)
+
+-- both, of slices that have these lengths. asked: what the call tests before them
+unfoldable pub sizeRows : Answer → ℕ → ℕ → ℕ → ℕ → ℕ → Answer
+sizeRows asked n y tri h kind = asked then lengthRow n y tri h kind then countRow n (tri / 3)
 
 -- each corner is a node number below n
 unfoldable pub allBelow : Three ℕ → ℕ → Bool

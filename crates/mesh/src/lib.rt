@@ -4,17 +4,15 @@ pub(crate) mod triangles;
 
 use rows::Answer;
 ghost use mathlib.Core.Path.{_≡_};
-ghost use Rattle.rows.specs.Scan.{_then_};
 ghost use Rattle.mesh.specs.Lent.{mesh};
-ghost use Rattle.mesh.specs.Rows.{row1, row2, shapeRows};
+ghost use Rattle.mesh.specs.Rows.{sizeRows, shapeRows};
 
-// What the call tests before, then rows 1 and 2.
-fn sizes(asked: Answer, x: &[i32], y: &[i32], tri: &[u16], h: &[f64], kind: &[u8]) -> Answer
-    ensures { λ r. ⌜ r ≡ (asked then row1 (mesh (now (x .entry)) (now (y .entry)) (now (tri .entry)) (now (h .entry)) (now (kind .entry))) then row2 (mesh (now (x .entry)) (now (y .entry)) (now (tri .entry)) (now (h .entry)) (now (kind .entry)))) ⌝ }
+// What the call tests before, then rows 1 and 2 of slices of these lengths.
+pub fn size_rows(asked: Answer, n: usize, y: usize, tri: usize, h: usize, kind: usize) -> Answer
+    ensures { λ r. ⌜ r ≡ sizeRows asked n y tri h kind ⌝ }
 {
-    let n = x.len();
-    let e = tri.len() / 3;
-    let lengths = (y.len() == n) & (h.len() == n) & (kind.len() == n) & (tri.len() % 3 == 0);
+    let e = tri / 3;
+    let lengths = (y == n) & (h == n) & (kind == n) & (tri % 3 == 0);
     let counts = (3 <= n) & (n <= 4096) & (1 <= e) & (e <= 8192);
     let lent = rows::first(rows::tested(lengths, 1, 0), rows::tested(counts, 2, 0));
     rows::first(asked, lent)
@@ -31,7 +29,7 @@ pub fn shape_rows(
 ) -> Answer
     ensures { λ r. ⌜ r ≡ shapeRows asked (mesh (now (x .entry)) (now (y .entry)) (now (tri .entry)) (now (h .entry)) (now (kind .entry))) ⌝ }
 {
-    let lent = sizes(asked, x, y, tri, h, kind);
+    let lent = size_rows(asked, x.len(), y.len(), tri.len(), h.len(), kind.len());
     if lent.number != 0 {
         return lent;
     }

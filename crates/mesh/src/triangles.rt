@@ -8,8 +8,8 @@ ghost use Prim.Native.Nat.{_/_, _<_};
 ghost use lib.ListN.{length};
 ghost use Rattle.lists.specs.Private.{Below};
 ghost use Rattle.rows.specs.Scan.{scan};
-ghost use Rattle.geometry.specs.Private.{nodesOf};
-ghost use Rattle.mesh.specs.Private.{placesOf};
+ghost use Rattle.geometry.specs.Geometry.{nodesOf};
+ghost use Rattle.mesh.specs.Geometry.{placesOf};
 ghost use Rattle.mesh.specs.Rows.{triangleRows};
 
 // The coordinates of a triangle's corners.

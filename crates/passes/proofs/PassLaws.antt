@@ -29,11 +29,10 @@ use Rattle.elevation.specs.Elevation.{shares, riseOf}
 use Rattle.geometry.specs.declared.Places.{Places}
 use Rattle.geometry.specs.declared.Corners.{Corners}
 use Rattle.geometry.specs.declared.WholeSides.{WholeSides}
-use Rattle.geometry.specs.Geometry.{allNear, D, floats, sidesAt}
-use Rattle.geometry.specs.Private.{nodesOf}
+use Rattle.geometry.specs.Geometry.{allNear, D, floats, sidesAt, nodesOf}
 use Rattle.mesh.specs.Lent.{E}
-use Rattle.mesh.specs.Geometry.{sides, area}
-use Rattle.mesh.specs.Private.{placesOf, Sound}
+use Rattle.mesh.specs.Geometry.{placesOf, sides, area}
+use Rattle.mesh.specs.Private.{Sound}
 use Rattle.mesh.proofs.SideLaws.{sides-read}
 use Rattle.passes.specs.declared.velocities.Slope.{Slope}
 use Rattle.velocity.specs.Velocity.{H, H′, r, p, m, q, gx, gy, wx, wy, n, Rx, Ry, U′ as flowU′, V′ as flowV′, flow, flowOf, pushOf}

@@ -14,7 +14,7 @@ ghost use lib.ListN.{length};
 ghost use Rattle.lists.specs.Table.{table};
 ghost use Rattle.lists.specs.Private.{Below};
 ghost use Rattle.triangle.specs.Triangle.{means};
-ghost use Rattle.geometry.specs.Private.{nodesOf};
+ghost use Rattle.geometry.specs.Geometry.{nodesOf};
 ghost use Rattle.mesh.specs.Lent.{mesh};
 ghost use Rattle.bounds.specs.State.{stateRuns, nodeOf};
 ghost use Rattle.passes.specs.Equations.{Given, given, count, S};

@@ -9,10 +9,9 @@ ghost use Prim.Native.Nat.{_≤_, _^_};
 ghost use lib.IntN.{natAbs, pos};
 ghost use lib.Ieee.{ofInt, binary64};
 ghost use lib.ListN.{length};
-ghost use Rattle.geometry.specs.Geometry.{allNear, D, floats};
+ghost use Rattle.geometry.specs.Geometry.{allNear, D, floats, nodesOf};
 ghost use Rattle.lists.specs.Private.{Below};
-ghost use Rattle.geometry.specs.Private.{nodesOf};
-ghost use Rattle.mesh.specs.Private.{placesOf};
+ghost use Rattle.mesh.specs.Geometry.{placesOf};
 
 // The coordinates of a triangle's corners.
 pub(crate) fn places_at(x: &[i32], y: &[i32], c: Corners) -> Places

@@ -9,7 +9,7 @@ ghost use lib.ListN.{length, getD};
 ghost use lib.Ieee.{nan};
 ghost use Rattle.lists.specs.Gather.{alike, whole};
 ghost use Rattle.lists.specs.Private.{Below, past, addedAt, spread};
-ghost use Rattle.geometry.specs.Private.{nodesOf};
+ghost use Rattle.geometry.specs.Geometry.{nodesOf};
 ghost use Rattle.triangle.specs.Triangle.{advection};
 ghost use Rattle.passes.specs.Equations.{threeOf, floating};
 ghost use Rattle.passes.specs.Settle.{workRuns};

@@ -16,7 +16,7 @@ ghost use Rattle.lists.specs.Table.{table};
 ghost use Rattle.lists.specs.Private.{Below};
 ghost use Rattle.quantities.specs.Operations.{lessIf};
 ghost use Rattle.velocity.specs.Velocity.{flowOf, pushOf};
-ghost use Rattle.geometry.specs.Private.{nodesOf};
+ghost use Rattle.geometry.specs.Geometry.{nodesOf};
 ghost use Rattle.mesh.specs.Lent.{mesh};
 ghost use Rattle.bounds.specs.State.{stateRuns, nodeOf};
 ghost use Rattle.bounds.specs.Forcing.{windRuns, windAt};

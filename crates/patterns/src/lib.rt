@@ -7,7 +7,7 @@ const NAN: u64 = 0x7FF8_0000_0000_0000;
 
 const SIGN: u64 = 0x8000_0000_0000_0000;
 
-const FRACTION: u64 = 0x0010_0000_0000_0000;
+const INFINITY: u64 = 0x7FF0_0000_0000_0000;
 
 pub fn pattern_of(x: f64) -> u64
     ensures { λ r. ⌜ r ≡ toBits binary64 x ⌝ }
@@ -18,16 +18,12 @@ pub fn pattern_of(x: f64) -> u64
     f64::to_bits(x)
 }
 
-// Every NaN's pattern is read as the one NaN.
+// Every NaN's pattern is read as the one NaN. Without the sign it is above an infinity's.
 pub fn float_of(p: u64) -> f64
     ensures { λ r. ⌜ r ≡ ofBits binary64 p ⌝ }
 {
-    let exponent = p % SIGN / FRACTION;
-    let fraction = p % FRACTION;
-    if exponent == 0x7FF {
-        if fraction != 0 {
-            return 0.0 / 0.0;
-        }
+    if INFINITY < p % SIGN {
+        return 0.0 / 0.0;
     }
     f64::from_bits(p)
 }

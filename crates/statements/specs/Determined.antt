@@ -89,6 +89,10 @@ use Rattle.geometry.proofs.sum_of.Kinds as geometry·sum-of-kinds
 use Rattle.geometry.proofs.sum_of.Reads as geometry·sum-of-reads
 use Rattle.mesh.proofs.reading.corners_at.Kinds as mesh·reading·corners-at-kinds
 use Rattle.mesh.proofs.reading.corners_at.Reads as mesh·reading·corners-at-reads
+use Rattle.mesh.proofs.reading.places_at.Kinds as mesh·reading·places-at-kinds
+use Rattle.mesh.proofs.reading.places_at.Reads as mesh·reading·places-at-reads
+use Rattle.mesh.proofs.size_rows.Kinds as mesh·size-rows-kinds
+use Rattle.mesh.proofs.size_rows.Reads as mesh·size-rows-reads
 use Rattle.mesh.proofs.shape_rows.Kinds as mesh·shape-rows-kinds
 use Rattle.mesh.proofs.shape_rows.Reads as mesh·shape-rows-reads
 use Rattle.legs.proofs.leg_rows.Kinds as legs·leg-rows-kinds
@@ -193,6 +197,8 @@ pub record EachDetermined : Type 0 where
   pub geometry·twice-area-determined : Determined geometry·twice-area-kinds.ps geometry·twice-area-kinds.r geometry·twice-area-reads.Post
   pub geometry·sum-of-determined : Determined geometry·sum-of-kinds.ps geometry·sum-of-kinds.r geometry·sum-of-reads.Post
   pub mesh·reading·corners-at-determined : Determined mesh·reading·corners-at-kinds.ps mesh·reading·corners-at-kinds.r mesh·reading·corners-at-reads.Post
+  pub mesh·reading·places-at-determined : Determined mesh·reading·places-at-kinds.ps mesh·reading·places-at-kinds.r mesh·reading·places-at-reads.Post
+  pub mesh·size-rows-determined : Determined mesh·size-rows-kinds.ps mesh·size-rows-kinds.r mesh·size-rows-reads.Post
   pub mesh·shape-rows-determined : Determined mesh·shape-rows-kinds.ps mesh·shape-rows-kinds.r mesh·shape-rows-reads.Post
   pub legs·leg-rows-determined : Determined legs·leg-rows-kinds.ps legs·leg-rows-kinds.r legs·leg-rows-reads.Post
   pub areas·twice-areas-determined : Determined areas·twice-areas-kinds.ps areas·twice-areas-kinds.r areas·twice-areas-reads.Post

@@ -8,7 +8,7 @@ use borrow.Author.Needs.{needs}
 use Rattle.rows.specs.declared.Answer.{Answer}
 use Rattle.rows.specs.Scan.{refused, some}
 use Rattle.rows.proofs.ScanLaws.{scan-none, scan-hit, some-none}
-use Rattle.geometry.specs.Private.{nodesOf}
+use Rattle.geometry.specs.Geometry.{nodesOf}
 use Rattle.mesh.specs.Lent.{corners}
 use Rattle.legs.specs.Legs.{legSeen, row6}
 use Rattle.mesh.proofs.SideLaws.{corners-read}

@@ -1,5 +1,5 @@
 use Prim.Native.Nat.{_+_, _%_}
-use Rattle.geometry.specs.Private.{nodesOf}
+use Rattle.geometry.specs.Geometry.{nodesOf}
 use Rattle.legs.proofs.LegLaws.{one-of-legs, corner-below}
 use borrow.Author.Needs.{needs}
 use Rattle.legs.proofs.leg_seen.Statement.{statement}

@@ -8,14 +8,14 @@ use mir.Syntax.{w64}
 use mir.Val.{Fits}
 use Rattle.lists.specs.Table.{table}
 use Rattle.lists.specs.Private.{upTo}
-use Rattle.lists.proofs.TableLaws.{length-table, up-none, up-all}
+use Rattle.lists.proofs.TableLaws.{length-table, up-none, up-all, fill-more, fill-length}
 use Rattle.grids.specs.Text.{lineOf, fieldOf}
 use Rattle.grids.specs.Numbers.{wholeOf, depthOf}
 use Rattle.grids.specs.Grid.{nodeLineRows, xIn, yIn, hIn}
 use Rattle.grids.specs.Private.{present, afterLines, NodeSeen, NodesFilled}
 use Rattle.grids.specs.declared.entries.NodeLine.{NodeLine}
 use Rattle.grids.proofs.SignLaws.{handed-32}
-use Rattle.grids.proofs.FillLaws.{here, here-accepts, here-after, fill-more, fill-length, x-value, y-value, x-fits, y-fits, h-value, node-after}
+use Rattle.grids.proofs.FillLaws.{here, here-accepts, here-after, x-value, y-value, x-fits, y-fits, h-value, node-after}
 use Rattle.grids.proofs.filling.fill_nodes.Statement.{statement}
 use Rattle.grids.proofs.filling.fill_nodes.Tie as tie
 

@@ -7,13 +7,13 @@ use lib.ListN.{length, drop, length-set}
 use mir.Syntax.{w64}
 use mir.Val.{Fits}
 use Rattle.lists.specs.Private.{upTo}
-use Rattle.lists.proofs.TableLaws.{length-table, up-none, up-all}
+use Rattle.lists.proofs.TableLaws.{length-table, up-none, up-all, fill-length}
 use Rattle.grids.specs.Text.{lineOf, fieldOf}
 use Rattle.grids.specs.Numbers.{numberOf}
 use Rattle.grids.specs.Grid.{triangleLineRows, cornerIn}
 use Rattle.grids.specs.Private.{present, afterLines, TriangleSeen}
 use Rattle.grids.specs.declared.entries.TriangleLine.{TriangleLine}
-use Rattle.grids.proofs.FillLaws.{here, here-accepts, here-after, fill-length, three-more, corner-place, first-corner, second-corner, third-corner, triangle-after}
+use Rattle.grids.proofs.FillLaws.{here, here-accepts, here-after, three-more, corner-place, first-corner, second-corner, third-corner, triangle-after}
 use Rattle.grids.proofs.filling.fill_triangles.Statement.{statement}
 use Rattle.grids.proofs.filling.fill_triangles.Tie as tie
 

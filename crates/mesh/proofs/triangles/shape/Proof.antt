@@ -7,8 +7,7 @@ use lib.ListN.{length}
 use Rattle.lists.specs.Gather.{Three}
 use Rattle.rows.specs.Scan.{row}
 use Rattle.mesh.specs.Lent.{corners}
-use Rattle.geometry.specs.Geometry.{allNear, nearD}
-use Rattle.geometry.specs.Private.{nodesOf}
+use Rattle.geometry.specs.Geometry.{allNear, nearD, nodesOf}
 use Rattle.mesh.specs.Geometry.{sides}
 use Rattle.mesh.specs.Rows.{allBelow}
 use Rattle.geometry.proofs.SizeLaws.{kept}

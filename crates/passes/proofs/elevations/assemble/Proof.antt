@@ -10,7 +10,7 @@ use Rattle.lists.specs.Gather.{gathered}
 use Rattle.lists.specs.Private.{past, spread}
 use Rattle.lists.proofs.TableLaws.{length-table}
 use Rattle.lists.proofs.RunLaws.{runs-length}
-use Rattle.geometry.specs.Private.{nodesOf}
+use Rattle.geometry.specs.Geometry.{nodesOf}
 use Rattle.mesh.specs.Lent.{mesh, E}
 use Rattle.mesh.proofs.SideLaws.{corners-read}
 use Rattle.passes.specs.Equations.{Given, given, count, cornersOf, floating, threeOf}

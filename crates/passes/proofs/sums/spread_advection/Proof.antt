@@ -6,7 +6,7 @@ use lib.Ieee.{Float, nan}
 use Rattle.lists.specs.Gather.{Three}
 use Rattle.lists.specs.Private.{past, spread}
 use Rattle.triangle.specs.declared.Advection.{Advection}
-use Rattle.geometry.specs.Private.{nodesOf}
+use Rattle.geometry.specs.Geometry.{nodesOf}
 use Rattle.passes.specs.Equations.{floating}
 use Rattle.passes.specs.Settle.{workRuns}
 use Rattle.passes.specs.Private.{spreadBoth}

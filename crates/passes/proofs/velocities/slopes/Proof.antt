@@ -8,7 +8,7 @@ use Rattle.lists.specs.Gather.{Three, gathered}
 use Rattle.lists.specs.Private.{Below, past, spread}
 use Rattle.lists.proofs.RunLaws.{runs-length}
 use Rattle.quantities.specs.declared.Parameters.{Parameters}
-use Rattle.geometry.specs.Private.{nodesOf}
+use Rattle.geometry.specs.Geometry.{nodesOf}
 use Rattle.mesh.specs.Lent.{mesh, E}
 use Rattle.mesh.proofs.SideLaws.{corners-read}
 use Rattle.passes.specs.Equations.{Given, given, cornersOf, floating}
