@@ -3,12 +3,16 @@ use Prim.Native.Nat.{ℕ, _+_, _*_, _^_, _<_, _≤_}
 use mathlib.Core.Path.{_≡_, refl, sym, ap, _∙_}
 use mathlib.Core.List.{List, [], _∷_}
 use mathlib.Core.Bool.{Bool, true, false, cond}
+use native.Mathlib.Nat.{mul-le-mul-right}
 use native.Mathlib.Omega.{arith}
 use borrow.Author.Tests.{ltb-true, ltb-false}
-use lib.Dec.{ltb, lit<}
+use lib.Dec.{T, leb, ltb, lit<, lit≤}
 use lib.ListN.{getD, set, List·getD-eq-default}
 use lib.IntN.{pos, natAbs}
 use lib.Ieee.{Float, nan, binary64, ofInt}
+use mir.Syntax.{w64}
+use mir.Facts.{fits-le}
+use mir.Val
 use Rattle.lists.specs.Table.{table}
 use Rattle.lists.specs.Runs.{inRun, runsOf}
 use Rattle.lists.specs.Gather.{Three, alike, whole, gathered}
@@ -73,6 +77,36 @@ in-run {c} {n} k m h b = record {
   second = in-runs n k m (c .second) h (b .second);
   third = in-runs n k m (c .third) h (b .third);
 }
+
+-- ---- what the code asks at a place and at the end of a turn, as laws over variables: a `search` or an `omega` at the place itself goes through all that
+-- is known there
+-- place i of run k, of m runs of n in a room that is as long as it was lent: its numbers do not wrap, and it is within the room
+pub record Place (k n i here : ℕ) : Type 0 where
+  pub run : mir.Val.Fits w64 (k * n)
+  pub at : mir.Val.Fits w64 (k * n + i)
+  pub bytes : mir.Val.Fits w64 ((k * n + i) * 8)
+  pub within : k * n + i < here
+
+pub place : {n i here lent : ℕ} (k m : ℕ) → T (ltb k m) → i < n → here ≡ m * n → here ≡ lent → lent * 8 < 2 ^ 63 → Place k n i here
+place {n} {i} k m h l long same bytes =
+    let w = in-runs n k m i (lit< h) l in record {
+      run = record { fits = omega arith };
+      at = record { fits = omega arith };
+      bytes = record { fits = omega arith };
+      within = omega arith;
+    }
+
+-- after turn i of n
+pub record Turned (n i : ℕ) : Type 0 where
+  pub next : i + 1 ≤ n
+  pub fits : mir.Val.Fits w64 (i + 1)
+
+pub turn : {n i : ℕ} → i < n → n < 2 ^ 64 → Turned n i
+turn h l = record { next = omega arith; fits = record { fits = omega arith } }
+
+-- where a run starts
+pub run-fits : {n : ℕ} (k : ℕ) → T (leb k workRuns) → n ≤ 4096 → mir.Val.Fits w64 (k * n)
+run-fits {n} k h l = fits-le (mul-le-mul-right n (lit≤ h)) (record { fits = omega arith })
 
 module _ (g : Given) (z : Fits g) where
   -- ---- triangle t, as it is read
@@ -249,6 +283,10 @@ module _ (g : Given) where
       go : (on : Bool) → clearRoom g ≡ runsOf (count g) (zero ∷ zero ∷ zero ∷ cond on zero zero ∷ cond on zero zero ∷ [])
       go true = refl
       go false = refl
+
+  pub S-none : table (count g) (λ _. 0) ≡ table (count g) (S-to g 0)
+  unfolding gathered
+  S-none = refl
 
   pub rise-none : sumRoom g ≡ risesTo g 0
   rise-none = sym (ap (λ (f : ℕ → Float). runsOf (count g) (f ∷ zero ∷ zero ∷ advected g)) (turn-none (rise g) (R g)))

@@ -5,7 +5,6 @@ use native.Mathlib.Omega.{arith}
 use lib.ListN.{length, take}
 use lib.Ieee.{Float}
 use mathlib.Core.Bool.{_&&_}
-use borrow.Author.Needs.{needs}
 use Rattle.rows.specs.declared.Answer.{Answer}
 use Rattle.rows.specs.Scan.{row}
 use Rattle.rows.proofs.ScanLaws.{same-number}
@@ -78,4 +77,4 @@ settle-spec =
     (tie.spec (λ c κs. tt) (λ c κs. tt) (λ c κs. tt) (λ c κs. tt) (λ c κs. tt)
     (λ c. let s = start (c .before .before) in stopped (net s) (s .args .p) (s .args .state .now) (s .args .f .now) (s .args .also) (lent s) (answered (c .before .before)) (c .if1 .taken))
     (λ c. omega (arith, long (c .before .before .before .before))) (λ c. omega (arith, long (c .before .before .before .before)))
-    (λ c. omega (arith, long (c .before .before .before .before))) (λ c. omega (arith, long (c .before .before .before .before))) work-out-requires (λ c. search needs) (λ c. search needs) (λ c. search needs) returns-2)
+    (λ c. omega (arith, long (c .before .before .before .before))) (λ c. omega (arith, long (c .before .before .before .before))) work-out-requires (λ c. c .before .before .before .before .before .before .work-out .kept .0) (λ c. c .before .before .before .before .before .before .work-out .kept .1 .0) (λ c. c .before .before .before .before .before .before .work-out .kept .1 .1 .0) returns-2)

@@ -1,5 +1,4 @@
 use mathlib.Core.Path.{_∙_}
-use borrow.Author.Needs.{needs}
 use Rattle.rows.proofs.ScanLaws.{same-number, stops, goes}
 use Rattle.mesh.specs.Lent.{mesh}
 use Rattle.passes.specs.Equations.{Given, given}
@@ -36,8 +35,8 @@ returns-2 c =
 pub solve-spec : {M : Type 1} → statement M
 solve-spec =
     tie.close
-    (tie.spec (λ c κs. search needs) (λ c κs. let m = c .before .before .before .before .before .before in (start m .pre .0, m .assemble .ensures))
-    (λ c. search needs) (λ c. search needs) returns
+    (tie.spec (λ c κs. let s = c .before .before .before .before .before .before .before .before .before in (s .pre .0, (s .pre .1 .0, s .pre .1 .1))) (λ c κs. let m = c .before .before .before .before .before .before in (start m .pre .0, m .assemble .ensures))
+    (λ c. let r = c .before .before .before .before in r .rises .kept .0 ∙ r .before .before .before .before .before .before .before .assemble .kept .0) (λ c. c .before .before .before .before .before .before .before .before .before .before .before .assemble .kept .1 .0) returns
     (λ c κs. let r = c .before .before .before .before .before in (start (r .before .before .before .before .before .before .before) .pre .0, r .rises .ensures .1))
     flows-requires same-length-3
     (λ c. let m = c .before .before .before .before .before .before .before .before .before .before .before .before .before .before .before .before .before .before .before .before in m .assemble .kept .1 .0)

@@ -40,4 +40,5 @@ same-length c = ⊎-elim (λ w. ap length (w .6) ∙ w .3 .kept .0) (λ w. ap le
 pub work-out-spec : {M : Type 1} → statement M
 work-out-spec =
     tie.close
-    (tie.spec (λ c κs. search needs) (λ c κs. search needs) (λ c κs. tt) (λ c κs. tt) same-length (λ c. search needs) (λ c. search needs) returns)
+    (tie.spec (λ c κs. let s = c .before .before .before .before .before .before .before .before .before .before in (s .pre .0, (s .pre .1 .1, s .pre .1 .2, s .pre .1 .3)))
+    (λ c κs. let k = c .before .before .before .before .before .before .before .before in let s = k .before .before .before .before .before .before .before .before .before .before .before in (s .pre .1 .0, s .pre .0 .state, k .solve .kept .0 ∙ s .pre .1 .1, s .pre .1 .3)) (λ c κs. tt) (λ c κs. tt) same-length (λ c. search needs) (λ c. search needs) returns)

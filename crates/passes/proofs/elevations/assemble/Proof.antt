@@ -1,12 +1,14 @@
 use Prim.Native.Nat.{ℕ, _-_, _*_, _≤_}
 use mathlib.Core.Path.{_≡_, sym, ap, _∙_}
 use native.Mathlib.Omega.{arith}
-use borrow.Author.Needs.{needs}
+use borrow.Author.Count.{falls}
+use borrow.Author.Needs.{zero≤}
 use lib.Dec.{lit<}
 use lib.ListN.{length}
+use mir.Syntax.{w64}
+use mir.Facts.{fits-below}
 use lib.Ieee.{nan}
 use Rattle.lists.specs.Table.{table}
-use Rattle.lists.specs.Gather.{gathered}
 use Rattle.lists.specs.Private.{past, spread}
 use Rattle.lists.proofs.TableLaws.{length-table}
 use Rattle.lists.proofs.RunLaws.{runs-length}
@@ -16,7 +18,7 @@ use Rattle.mesh.proofs.SideLaws.{corners-read}
 use Rattle.passes.specs.Equations.{Given, given, count, cornersOf, floating, threeOf}
 use Rattle.passes.specs.Settle.{workRuns}
 use Rattle.passes.specs.Private.{Fits}
-use Rattle.passes.proofs.PassLaws.{sumsTo, S-to, in-run, inside, its-near, its-turn, its-floats, its-area, its-means, its-shares, sum-more, area-more, S-room, sum-none}
+use Rattle.passes.proofs.PassLaws.{Turned, turn, run-fits, sumsTo, S-to, in-run, inside, its-near, its-turn, its-floats, its-area, its-means, its-shares, sum-more, area-more, S-room, sum-none, S-none}
 use Rattle.passes.proofs.SettleLaws.{cleared-room}
 use Rattle.passes.proofs.elevations.assemble.Statement.{statement}
 use Rattle.passes.proofs.elevations.assemble.Tie as tie
@@ -48,11 +50,14 @@ sums-long l = ap length (l .loop .inv .1 .1) ∙ length-table _ _
 corner : (c : tie.After-corners-at Inv-loop μ-loop) → let l = c .before .before in nodesOf (c .corners-at .result) ≡ cornersOf (its (start l)) (l .loop .t)
 corner c = corners-read _ _ (c .before .loop-test .taken) (c .corners-at .ensures)
 
+-- the end of a turn
+turned : (t : tie.In-loop Inv-loop μ-loop) → let l = t .before in Turned (E (its (start l) .mesh)) (l .loop .t)
+turned t = turn (t .loop-test .taken) (fits-below {w = w64} tt (fits (t .before) .shape .sized .most-triangles) .fits)
+
 loop-holds : tie.Need-loop-holds Inv-loop μ-loop
-unfolding gathered
 loop-holds c =
     let s = c .before .before .before .before .before .before .before .before .before .before .before .before .before .before .before in
-    (omega arith, (cleared-room (its s) _ (s .pre .1 .0) (c .before .before .before .before .before .before .clear .ensures) ∙ sum-none (its s), c .before .before .clear-whole .ensures ∙ ap (λ (n : ℕ). table n (λ _. 0)) (s .pre .1 .1)))
+    (zero≤, (cleared-room (its s) _ (s .pre .1 .0) (c .before .before .before .before .before .before .clear .ensures) ∙ sum-none (its s), c .before .before .clear-whole .ensures ∙ ap (λ (n : ℕ). table n (λ _. 0)) (s .pre .1 .1) ∙ S-none (its s)))
 
 places-at-requires : tie.Need-places-at-requires Inv-loop μ-loop
 places-at-requires c κs =
@@ -123,7 +128,7 @@ loop-again c =
     let z = fits l in
     let inv = l .loop .inv .1 in
     let s = its-floats _ z _ h (corner k) (q .places-at .ensures) (w .sides-of .ensures) (m .before .floats-of .ensures) in (
-      omega (arith, h),
+      turned (k .before) .next,
       (
         first .spread .ensures
             ∙ ap (spread floating nan (past (0 * n) at) (threeOf (first .before .shares .result))) (both .spread-advection .ensures)
@@ -145,7 +150,7 @@ returns c =
 pub assemble-spec : {M : Type 1} → statement M
 assemble-spec =
     tie.close
-    (tie.spec Inv-loop μ-loop (λ c κs. tt) (λ c κs. tt) loop-holds (λ c κs. tt) places-at-requires (λ c κs. tt) floats-of-requires means-at-requires spread-advection-requires (λ c. search needs) (λ c κs. tt) spread-requires area-of-requires spread-area-requires
-    (λ c. let k = back (c .before .before .before .before) .before .before in record { fits = omega (arith, k .before .loop-test .taken, fits (k .before .before) .shape .sized .most-triangles) })
-    (λ c. omega (arith, back (c .before .before .before .before) .before .before .before .loop-test .taken)) loop-again (λ c. let l = c .before in long l ∙ sym (start l .pre .1 .0))
+    (tie.spec Inv-loop μ-loop (λ c κs. tt) (λ c κs. tt) loop-holds (λ c κs. tt) places-at-requires (λ c κs. tt) floats-of-requires means-at-requires spread-advection-requires (λ c. run-fits 0 tt (fits (c .before .before .before .before .before .before .before .before .before .before .before) .shape .sized .most-nodes)) (λ c κs. tt) spread-requires area-of-requires spread-area-requires
+    (λ c. turned (back (c .before .before .before .before) .before .before .before) .fits)
+    (λ c. falls _ _ (back (c .before .before .before .before) .before .before .before .loop-test .taken)) loop-again (λ c. let l = c .before in long l ∙ sym (start l .pre .1 .0))
     (λ c. let l = c .before in sums-long l ∙ sym (start l .pre .1 .1)) returns)

@@ -1,7 +1,8 @@
-use Prim.Native.Nat.{ℕ, _-_, _*_, _≤_}
+use Prim.Native.Nat.{ℕ, _-_, _*_, _≤_, _<_}
 use mathlib.Core.Path.{_≡_, refl, sym, ap, _∙_}
-use native.Mathlib.Omega.{arith}
-use borrow.Author.Needs.{needs}
+use native.Mathlib.Nat.{le-antisymm}
+use borrow.Author.Count.{falls}
+use borrow.Author.Needs.{zero≤, scaled-fits, below-length}
 use lib.Dec.{eqb}
 use lib.ListN.{length}
 use Rattle.rows.specs.declared.Answer.{Answer}
@@ -14,7 +15,7 @@ use Rattle.passes.specs.Equations.{Given, given, count, node, rise}
 use Rattle.outcomes.specs.Outcomes.{riseRow}
 use Rattle.passes.specs.Settle.{workRuns}
 use Rattle.passes.specs.Private.{Fits, riseRoom}
-use Rattle.passes.proofs.PassLaws.{risesTo, its-rise, rise-more, rise-none, rise-all}
+use Rattle.passes.proofs.PassLaws.{Place, place, turn, risesTo, its-rise, rise-more, rise-none, rise-all}
 use Rattle.passes.proofs.elevations.rises.Statement.{statement}
 use Rattle.passes.proofs.elevations.rises.Tie as tie
 
@@ -53,13 +54,20 @@ sums-long l = ap length (start l .pre .1 .1) ∙ length-table _ _
 
 -- after the last turn every z' stands in the room
 done : (c : tie.After-loop Inv-loop μ-loop) → c .before .loop .i ≡ count (here (c .before))
-done c = omega arith
+done c = le-antisymm (c .before .loop .inv .0) (c .loop-test .left)
 
 all : (c : tie.After-loop Inv-loop μ-loop) → c .before .loop .work ≡ riseRoom (here (c .before))
 all c = c .before .loop .inv .1 .0 ∙ ap (risesTo (here (c .before))) (done c) ∙ rise-all (here (c .before))
 
+-- place i of the sums, and of the run of z'
+in-sums : (t : tie.In-loop Inv-loop μ-loop) → let l = t .before in l .loop .i < length (start l .args .sums .now)
+in-sums t = let l = t .before in below-length ℕ (start l .args .sums .now) _ _ (sums-long l) (t .loop-test .taken)
+
+at : (t : tie.In-loop Inv-loop μ-loop) → let l = t .before in Place 0 (length (start l .args .x .now)) (l .loop .i) (length (l .loop .work))
+at t = let l = t .before in place 0 workRuns tt (t .loop-test .taken) (long l) (same l) (start l .good .0 .1)
+
 loop-holds : tie.Need-loop-holds Inv-loop μ-loop
-loop-holds c = let s = c .before .before .before .before .before .before .before in (omega arith, (s .pre .1 .0 ∙ rise-none (its s), all-none _))
+loop-holds c = let s = c .before .before .before .before .before .before .before in (zero≤, (s .pre .1 .0 ∙ rise-none (its s), all-none _))
 
 loop-again : tie.Need-loop-again Inv-loop μ-loop
 loop-again c =
@@ -74,7 +82,7 @@ loop-again c =
     let h = t .loop-test .taken in
     let r = its-rise g (fits l) i h (start l .pre .1 .1) (l .loop .inv .1 .0) (k .node-of .ensures) (s .sum-of .ensures) (z .rise-of .ensures) in
     let asked = a .rise-row .ensures ∙ (λ j. riseRow (k .node-of .ensures j .h) (r j) i) in
-    (omega (arith, h), (rise-more g (fits l) i h (l .loop .inv .1 .0) r, all-more (rowAt g) i (l .loop .inv .1 .1) (ap (λ (a : Answer). eqb (a .number) 0) asked)))
+    (turn h (start l .good .1 .1 .0 .0) .next, (rise-more g (fits l) i h (l .loop .inv .1 .0) r, all-more (rowAt g) i (l .loop .inv .1 .1) (ap (λ (a : Answer). eqb (a .number) 0) asked)))
 
 returns : tie.Need-returns Inv-loop μ-loop
 returns c =
@@ -87,14 +95,12 @@ returns-2 c = let d = c .before .before .before in (c .refused-rise .ensures (he
 pub rises-spec : {M : Type 1} → statement M
 rises-spec =
     tie.close
-    (tie.spec Inv-loop μ-loop loop-holds (λ c κs. let z = fits (c .before) in (c .loop-test .taken, z .shape .sized .h, z .state)) (λ c. search needs)
-    (λ c. let t = c .before .before in omega (arith, sums-long (t .before), t .loop-test .taken)) (λ c κs. tt)
-    (λ c. let t = c .before .before .before .before in omega (arith, fits (t .before) .shape .sized .kind, t .loop-test .taken)) (λ c. search needs)
-    (λ c. search needs) (λ c. search needs)
-    (λ c. let t = c .before .before .before .before .before in omega (arith, long (t .before), t .loop-test .taken)) (λ c κs. tt)
-    (λ c. search needs) (λ c. search needs) (λ c. search needs)
-    (λ c. let t = c .before .before .before .before .before .before in omega (arith, long (t .before), t .loop-test .taken)) (λ c κs. tt)
-    (λ c. let t = c .before .before .before .before .before .before .before .before in record { fits = omega (arith, t .loop-test .taken, fits (t .before) .shape .sized .most-nodes) })
-    (λ c. omega arith) loop-again (λ c κs. tt)
+    (tie.spec Inv-loop μ-loop loop-holds (λ c κs. let z = fits (c .before) in (c .loop-test .taken, z .shape .sized .h, z .state))
+    (λ c. let t = c .before in scaled-fits _ _ 8 (in-sums t) (start (t .before) .good .1 .0 .1)) (λ c. in-sums (c .before .before)) (λ c κs. tt)
+    (λ c. let t = c .before .before .before .before in below-length ℕ (start (t .before) .args .kind .now) _ _ (fits (t .before) .shape .sized .kind) (t .loop-test .taken))
+    (λ c. at (c .before .before .before .before) .run) (λ c. at (c .before .before .before .before) .at) (λ c. at (c .before .before .before .before) .bytes) (λ c. at (c .before .before .before .before .before) .within) (λ c κs. tt)
+    (λ c. at (c .before .before .before .before .before .before) .run) (λ c. at (c .before .before .before .before .before .before) .at) (λ c. at (c .before .before .before .before .before .before) .bytes) (λ c. at (c .before .before .before .before .before .before) .within) (λ c κs. tt)
+    (λ c. let t = c .before .before .before .before .before .before .before .before in turn (t .loop-test .taken) (start (t .before) .good .1 .1 .0 .0) .fits)
+    (λ c. falls _ _ (c .before .before .before .before .before .before .before .before .loop-test .taken)) loop-again (λ c κs. tt)
     (λ c κs. let l = c .before .before .before in (fits l .shape .sized .h, long l)) (λ c. same (c .before .before .before)) returns
     (λ c. same (c .before .before .before .before)) returns-2)

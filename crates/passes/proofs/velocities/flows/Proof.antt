@@ -1,8 +1,9 @@
 use Prim.Native.Nat.{ℕ, _-_, _*_, _≤_}
 use mathlib.Core.Path.{_≡_, refl, sym, ap, _∙_}
-use native.Mathlib.Omega.{arith}
-use borrow.Author.Needs.{needs}
-use lib.Dec.{eqb}
+use native.Mathlib.Nat.{le-antisymm}
+use borrow.Author.Count.{falls}
+use borrow.Author.Needs.{zero≤}
+use lib.Dec.{T, ltb, eqb}
 use lib.ListN.{length, length-set}
 use Rattle.rows.specs.declared.Answer.{Answer}
 use Rattle.rows.specs.Scan.{scan}
@@ -14,7 +15,7 @@ use Rattle.passes.specs.Equations.{Given, given, count, flowAt}
 use Rattle.outcomes.specs.Outcomes.{flowRow}
 use Rattle.passes.specs.Settle.{workRuns}
 use Rattle.passes.specs.Private.{Fits, flowRoom}
-use Rattle.passes.proofs.PassLaws.{flowsTo, its-flow, flow-more, flow-none, flow-all}
+use Rattle.passes.proofs.PassLaws.{Place, place, turn, flowsTo, its-flow, flow-more, flow-none, flow-all}
 use Rattle.passes.proofs.velocities.flows.Statement.{statement}
 use Rattle.passes.proofs.velocities.flows.Tie as tie
 
@@ -51,10 +52,18 @@ same l = long l ∙ sym (ap length (start l .pre .1 .0) ∙ runs-length _ _)
 
 -- after the last turn every U' and V' stands in the room
 done : (c : tie.After-loop Inv-loop μ-loop) → c .before .loop .i ≡ count (here (c .before))
-done c = omega arith
+done c = le-antisymm (c .before .loop .inv .0) (c .loop-test .left)
 
 all : (c : tie.After-loop Inv-loop μ-loop) → c .before .loop .work ≡ flowRoom (here (c .before))
 all c = let g = here (c .before) in c .before .loop .inv .1 .0 ∙ ap (flowsTo g) (done c) ∙ flow-all g
+
+-- the turn in which a flow was worked out
+abbrev turnOf : tie.After-flow-at Inv-loop μ-loop → tie.In-loop Inv-loop μ-loop
+turnOf v = v .before .before .before .before .before .before
+
+-- place i of run k
+at : (t : tie.In-loop Inv-loop μ-loop) (k : ℕ) → T (ltb k workRuns) → let l = t .before in Place k (length (start l .args .x .now)) (l .loop .i) (length (l .loop .work))
+at t k h = let l = t .before in place k workRuns h (t .loop-test .taken) (long l) (same l) (start l .good .0 .1)
 
 loop-again : tie.Need-loop-again Inv-loop μ-loop
 loop-again c =
@@ -67,7 +76,7 @@ loop-again c =
     let h = t .loop-test .taken in
     let r = its-flow g (fits l) i h (start l .pre .1 .1) (l .loop .inv .1 .0) (v .flow-at .ensures) in
     let asked = a .flow-row .ensures ∙ (λ j. flowRow (r j) i) in
-    (omega (arith, h), (flow-more g (fits l) i h (l .loop .inv .1 .0) r, all-more (rowAt g) i (l .loop .inv .1 .1) (ap (λ (a : Answer). eqb (a .number) 0) asked)))
+    (turn h (start l .good .1 .1 .0 .0) .next, (flow-more g (fits l) i h (l .loop .inv .1 .0) r, all-more (rowAt g) i (l .loop .inv .1 .1) (ap (λ (a : Answer). eqb (a .number) 0) asked)))
 
 returns : tie.Need-returns Inv-loop μ-loop
 returns c =
@@ -81,34 +90,19 @@ pub flows-spec : {M : Type 1} → statement M
 flows-spec =
     tie.close
     (tie.spec Inv-loop μ-loop
-    (λ c. let s = c .before .before .before .before .before .before .before in (omega arith, (s .pre .1 .0 ∙ flow-none (its s), all-none _)))
-    (λ c. let m = long (c .before) in search needs) (λ c. let m = long (c .before) in search needs) (λ c. let m = long (c .before) in search needs)
-    (λ c. let t = c .before in omega (arith, long (t .before), t .loop-test .taken)) (λ c. let m = long (c .before .before) in search needs)
-    (λ c. let m = long (c .before .before) in search needs) (λ c. let m = long (c .before .before) in search needs)
-    (λ c. let t = c .before .before in omega (arith, long (t .before), t .loop-test .taken))
-    (λ c. let m = long (c .before .before .before) in search needs) (λ c. let m = long (c .before .before .before) in search needs)
-    (λ c. let m = long (c .before .before .before) in search needs)
-    (λ c. let t = c .before .before .before in omega (arith, long (t .before), t .loop-test .taken))
-    (λ c. let m = long (c .before .before .before .before) in search needs) (λ c. let m = long (c .before .before .before .before) in search needs)
-    (λ c. let m = long (c .before .before .before .before) in search needs)
-    (λ c. let t = c .before .before .before .before in omega (arith, long (t .before), t .loop-test .taken))
-    (λ c. let m = long (c .before .before .before .before .before) in search needs)
-    (λ c. let m = long (c .before .before .before .before .before) in search needs)
-    (λ c. let m = long (c .before .before .before .before .before) in search needs)
-    (λ c. let t = c .before .before .before .before .before in omega (arith, long (t .before), t .loop-test .taken))
+    (λ c. let s = c .before .before .before .before .before .before .before in (zero≤, (s .pre .1 .0 ∙ flow-none (its s), all-none _)))
+    (λ c. at c 0 tt .run) (λ c. at c 0 tt .at) (λ c. at c 0 tt .bytes) (λ c. at (c .before) 0 tt .within)
+    (λ c. at (c .before) 1 tt .run) (λ c. at (c .before) 1 tt .at) (λ c. at (c .before) 1 tt .bytes) (λ c. at (c .before .before) 1 tt .within)
+    (λ c. at (c .before .before) 2 tt .run) (λ c. at (c .before .before) 2 tt .at) (λ c. at (c .before .before) 2 tt .bytes) (λ c. at (c .before .before .before) 2 tt .within)
+    (λ c. at (c .before .before .before) 3 tt .run) (λ c. at (c .before .before .before) 3 tt .at) (λ c. at (c .before .before .before) 3 tt .bytes) (λ c. at (c .before .before .before .before) 3 tt .within)
+    (λ c. at (c .before .before .before .before) 4 tt .run) (λ c. at (c .before .before .before .before) 4 tt .at) (λ c. at (c .before .before .before .before) 4 tt .bytes) (λ c. at (c .before .before .before .before .before) 4 tt .within)
     (λ c κs.
     let t = c .before .before .before .before .before in
     let s = start (t .before) in
     let z = fits (t .before) in
     ((t .loop-test .taken, z .shape .sized .h, z .state), (z .shape .sized .kind, s .pre .1 .2, ap length (s .pre .1 .1) ∙ length-table _ _)))
-    (λ c. let m = long (c .before .before .before .before .before .before .before) in search needs)
-    (λ c. let m = long (c .before .before .before .before .before .before .before) in search needs)
-    (λ c. let m = long (c .before .before .before .before .before .before .before) in search needs)
-    (λ c. let t = c .before .before .before .before .before .before in omega (arith, long (t .before), t .loop-test .taken))
-    (λ c. let m = long (c .before .before .before .before .before .before .before) in search needs)
-    (λ c. let m = long (c .before .before .before .before .before .before .before) in search needs)
-    (λ c. let m = long (c .before .before .before .before .before .before .before) in search needs)
-    (λ c. let t = c .before .before .before .before .before .before in simp length-set (omega (arith, long (t .before), t .loop-test .taken))) (λ c κs. tt)
-    (λ c. let t = c .before .before .before .before .before .before .before .before in record { fits = omega (arith, t .loop-test .taken, fits (t .before) .shape .sized .most-nodes) })
-    (λ c. omega arith) loop-again (λ c κs. tt) (λ c κs. long (c .before .before .before)) (λ c. same (c .before .before .before)) returns
+    (λ c. at (turnOf c) 1 tt .run) (λ c. at (turnOf c) 1 tt .at) (λ c. at (turnOf c) 1 tt .bytes) (λ c. at (turnOf c) 1 tt .within)
+    (λ c. at (turnOf c) 2 tt .run) (λ c. at (turnOf c) 2 tt .at) (λ c. at (turnOf c) 2 tt .bytes) (λ c. simp length-set (at (turnOf c) 2 tt .within)) (λ c κs. tt)
+    (λ c. let t = c .before .before .before .before .before .before .before .before in turn (t .loop-test .taken) (start (t .before) .good .1 .1 .0 .0) .fits)
+    (λ c. falls _ _ (c .before .before .before .before .before .before .before .before .loop-test .taken)) loop-again (λ c κs. tt) (λ c κs. long (c .before .before .before)) (λ c. same (c .before .before .before)) returns
     (λ c. same (c .before .before .before .before)) returns-2)

@@ -1,8 +1,12 @@
 use Prim.Native.Nat.{_-_, _*_, _≤_}
 use mathlib.Core.Path.{_≡_, refl, sym, ap, _∙_}
-use native.Mathlib.Omega.{arith}
+use native.Mathlib.Nat.{le-antisymm}
+use borrow.Author.Count.{falls}
+use borrow.Author.Needs.{zero≤}
 use lib.Dec.{lit<}
 use lib.ListN.{length}
+use mir.Syntax.{w64}
+use mir.Facts.{fits-below}
 use lib.Ieee.{Float, nan}
 use Rattle.lists.specs.Gather.{Three, gathered}
 use Rattle.lists.specs.Private.{Below, past, spread}
@@ -14,7 +18,7 @@ use Rattle.mesh.proofs.SideLaws.{corners-read}
 use Rattle.passes.specs.Equations.{Given, given, cornersOf, floating}
 use Rattle.passes.specs.Settle.{workRuns}
 use Rattle.passes.specs.Private.{Fits, riseRoom}
-use Rattle.passes.proofs.PassLaws.{slopesTo, in-run, inside, its-near, its-floats, slope-more}
+use Rattle.passes.proofs.PassLaws.{Turned, turn, run-fits, slopesTo, in-run, inside, its-near, its-floats, slope-more}
 use Rattle.passes.proofs.velocities.slopes.Statement.{statement}
 use Rattle.passes.proofs.velocities.slopes.Tie as tie
 
@@ -51,9 +55,13 @@ corner c = corners-read _ _ (c .before .loop-test .taken) (c .corners-at .ensure
 below : (c : tie.After-corners-at Inv-loop μ-loop) → Below (nodesOf (c .corners-at .result)) (length (start (c .before .before) .args .x .now))
 below c = inside _ (fits (c .before .before)) _ (c .before .loop-test .taken) (corner c)
 
+-- the end of a turn
+turned : (t : tie.In-loop Inv-loop μ-loop) → let l = t .before in Turned (E (here l .mesh)) (l .loop .t)
+turned t = turn (t .loop-test .taken) (fits-below {w = w64} tt (fits (t .before) .shape .sized .most-triangles) .fits)
+
 loop-holds : tie.Need-loop-holds Inv-loop μ-loop
 unfolding gathered
-loop-holds c = (omega arith, λ p e. e)
+loop-holds c = (zero≤, λ p e. e)
 
 loop-again : tie.Need-loop-again Inv-loop μ-loop
 loop-again c =
@@ -67,7 +75,7 @@ loop-again c =
     let h = k .before .loop-test .taken in
     let n = length (start l .args .x .now) in
     let at = nodesOf (k .corners-at .result) in (
-      omega (arith, h),
+      turned (k .before) .next,
       λ p e.
           let g = its (start l) p in
           let y = fits l in
@@ -80,7 +88,7 @@ loop-again c =
 returns : tie.Need-returns Inv-loop μ-loop
 returns c =
     let l = c .before in
-    let end : l .loop .t ≡ E (here l .mesh) = omega arith in
+    let end : l .loop .t ≡ E (here l .mesh) = le-antisymm (l .loop .inv .0) (c .loop-test .left) in
     inv l ∙ ap (slopesTo (here l)) end
 
 pub slopes-spec : {M : Type 1} → statement M
@@ -91,13 +99,12 @@ slopes-spec =
     let k = c .before .before in
     its-near _ (fits (k .before .before)) _ (k .before .loop-test .taken) (corner k) (c .before .places-at .ensures) (c .sides-of .ensures))
     (λ c κs. let k = c .before .before .before .before in let l = k .before .before in (below k, fits l .state, long l))
-    (λ c. record { fits = omega (arith, fits (c .before .before .before .before .before .before .before .before) .shape .sized .most-nodes) }) (λ c κs. tt)
+    (λ c. run-fits 1 tt (fits (c .before .before .before .before .before .before .before .before) .shape .sized .most-nodes)) (λ c κs. tt)
     (λ c κs. let k = c .before .before .before .before .before .before .before in rw (long (k .before .before)) (in-run 1 workRuns (lit< tt) (below k)))
-    (λ c. record { fits = omega (arith, fits (c .before .before .before .before .before .before .before .before .before .before .before .before .before) .shape .sized .most-nodes) })
+    (λ c. run-fits 2 tt (fits (c .before .before .before .before .before .before .before .before .before .before .before .before .before) .shape .sized .most-nodes))
     (λ c κs. tt)
     (λ c κs.
     let d = c .before .before .before .before in
     let k = d .before .before .before .before .before .before .before .before in
     rw (d .spread .kept .0 ∙ long (k .before .before)) (in-run 2 workRuns (lit< tt) (below k)))
-    (λ c. let t = c .before .before .before .before .before .before .before .before .before .before .before .before .before .before .before .before in record { fits = omega (arith, t .loop-test .taken, fits (t .before) .shape .sized .most-triangles) })
-    (λ c. omega arith) loop-again (λ c. let l = c .before in long l ∙ sym (ap length (start l .pre .1) ∙ runs-length _ _)) returns)
+    (λ c. turned (c .before .before .before .before .before .before .before .before .before .before .before .before .before .before .before .before) .fits) (λ c. falls _ _ (c .before .before .before .before .before .before .before .before .before .before .before .before .before .before .before .before .loop-test .taken)) loop-again (λ c. let l = c .before in long l ∙ sym (ap length (start l .pre .1) ∙ runs-length _ _)) returns)
