@@ -10,9 +10,10 @@ pub struct Bare;
 
 /// An element whose place is trusted.
 #[inline(always)]
-fn at<T: Copy>(slice: &[T], i: usize) -> T {
+pub fn at<T: Copy>(slice: &[T], i: usize) -> T {
     debug_assert!(i < slice.len());
-    // Safety: the mesh of this program is one that `open` of the product accepts, so that every node number is below N.
+    // Safety: the mesh of this program is one that `open` of the product accepts, so that every node number is below N. A triangle that is asked for
+    // was found, and a gauge was given out.
     unsafe { *slice.get_unchecked(i) }
 }
 

@@ -2,19 +2,27 @@
 //! `tools/bench` builds and runs it; docs/SPEED.md has the figures of one run.
 //!
 //!     bench [ROUNDS]              the tables
-//!     bench CALL PROGRAM COUNT    one call by one program, for a profiler: open, step, step-on, save, load, forcing or grid, by product, tested or
-//!                                 bare
+//!     bench CALL PROGRAM COUNT    one call by one program, for a profiler: open, step, step-on, save, load, forcing, grid or update, by product,
+//!                                 tested or bare
 
 mod agree;
+mod agree_gauges;
 mod agree_grids;
 mod bare;
+mod bare_gauges;
 mod bare_grids;
+mod board;
 mod formulas;
+mod gauge_tables;
+mod gauges;
 mod held;
 mod hex;
 mod parts;
 mod product;
+mod product_gauges;
+mod record;
 mod run;
+mod search;
 mod tested;
 mod texts;
 mod timing;
@@ -49,6 +57,8 @@ fn main() {
     println!("{} faults answered alike by the product and the tested program, advection off and on", agree::refusals());
     let (faults, right) = agree_grids::readings();
     println!("{faults} faults of grid texts and {right} right ones likewise");
+    let (faults, right) = agree_gauges::calls();
+    println!("{faults} faults of gauges likewise, and {right} right calls, by the bare program too");
     let world = World::grid(80, 50);
     let log = world.log(STEPS);
     let (off, on) = calls(rounds, &world, &log);
@@ -56,6 +66,7 @@ fn main() {
     parts_of_a_step(rounds, "a step", &world, &off, log.at(0));
     parts_of_a_step(rounds, "a step, advection on", &world.with_advection(), &on, log.at(0));
     parts_of_a_reading(rounds, &world);
+    gauge_tables::all(rounds, &world, &log);
 }
 
 /// One call by one program, so many times. Steps begin anew at the end of the log.
@@ -67,6 +78,9 @@ fn only(call: &str, name: &str, count: usize) {
     let mut run = Held::new(*program, &mesh);
     let (log, grid) = (world.log(STEPS), world.grid_text());
     let winds = texts::winds(log.at(0));
+    if call == "update" {
+        return gauge_tables::only(name, &world, &log, count);
+    }
     run.save(&mesh);
     for at in 0..count {
         match call {
@@ -81,7 +95,7 @@ fn only(call: &str, name: &str, count: usize) {
             "load" => run.load(&mesh),
             "forcing" => run.read_forcing(&winds),
             "grid" => run.read_grid(&grid),
-            _ => panic!("open, step, step-on, save, load, forcing or grid"),
+            _ => panic!("open, step, step-on, save, load, forcing, grid or update"),
         }
     }
 }
@@ -102,6 +116,7 @@ fn time(seconds: f64) -> String {
     match seconds {
         s if s >= 1.0 => format!("{s:.3} s"),
         s if s >= 1e-3 => format!("{:.3} ms", s * 1e3),
+        s if s.abs() < 1e-6 => format!("{:.1} ns", s * 1e9),
         s => format!("{:.1} us", s * 1e6),
     }
 }

@@ -1,9 +1,13 @@
-//! What a step's time and a grid reading's time are made of.
+//! What a step's time, a grid reading's time and the time of an update of the gauges are made of.
 
+use crate::board::Board;
 use crate::formulas::Terms;
+use crate::gauges::{Gauges, Lent, Point};
 use crate::held::Held;
+use crate::record;
 use crate::run::{Forcing, Known, Program, State};
-use crate::tested::{mesh, step};
+use crate::search::{self, Spot};
+use crate::tested::{gauges, mesh, step};
 use crate::timing::{each, interleaved};
 use crate::world::World;
 use std::hint::black_box;
@@ -11,7 +15,7 @@ use std::hint::black_box;
 /// How often a part is done in each round.
 const TIMES: usize = 200;
 
-/// How often a grid text is read in each round.
+/// How often a grid text is read in each round, a state handed over, or the triangles of all gauges searched.
 const READINGS: usize = 20;
 
 /// The seconds of a program's parts, told apart from outside by calls that are refused at a known point.
@@ -71,6 +75,44 @@ pub fn readings(rounds: usize, programs: &[&dyn Program], world: &World) -> Vec<
     };
     let (asked, whole) = (seconds(&text[..=last], 30), seconds(&text, 0));
     asked.into_iter().zip(whole).collect()
+}
+
+/// The seconds of each program's update of a record without gauges, which asks all rows but 40, and of one with gauges.
+pub fn updates(rounds: usize, programs: &[&dyn Gauges], lent: Lent, points: &[Point]) -> Vec<(f64, f64)> {
+    let seconds = |points: &[Point]| -> Vec<f64> {
+        let mut boards: Vec<Board> = programs.iter().map(|&program| Board::new(program)).collect();
+        boards.iter_mut().for_each(|board| board.add(lent, points));
+        let times = interleaved(rounds, &mut boards, |board| (0..READINGS).for_each(|step| board.update(lent, step)));
+        times.iter().map(|times| times.best() / READINGS as f64).collect()
+    };
+    seconds(&[]).into_iter().zip(seconds(points)).collect()
+}
+
+/// The seconds of the parts of the tested program's update, each by itself.
+pub fn inside_update(rounds: usize, lent: Lent, points: &[Point]) -> Vec<(&'static str, f64)> {
+    let numbers = gauges::Numbers::of(lent).expect("whole slices");
+    let mut board = Board::new(&crate::TESTED);
+    board.add(lent, points);
+    let mut parts = Vec::new();
+    let mut part = |name: &'static str, count: usize, work: &mut dyn FnMut()| parts.push((name, each(rounds, count, work)));
+    part("the six slices decoded", TIMES, &mut || assert!(black_box(gauges::Numbers::of(black_box(lent))).is_ok()));
+    part("of these the state", TIMES, &mut || assert!(black_box(gauges::decoded(black_box(lent.state), f64::from_be_bytes)).is_ok()));
+    part("rows 1 to 10", TIMES, &mut || assert!(black_box(&numbers).rows().is_ok()));
+    part("43", TIMES, &mut || assert!(gauges::row_43(black_box(&board.record)).is_ok()));
+    let mut searched = |name: &'static str, search: &dyn Fn(Point) -> Option<Spot>| {
+        part(name, READINGS, &mut || points.iter().for_each(|&point| assert!(search(black_box(point)).is_some())));
+    };
+    searched("the search", &|point| numbers.locate(point));
+    let triangles: Vec<[Point; 3]> = numbers.triangles().collect();
+    searched("the search, over corners that were gathered before it", &|point| search::locate(triangles.iter().copied(), point));
+    part("the corners gathered", TIMES, &mut || assert!(!black_box(black_box(&numbers).triangles().collect::<Vec<_>>()).is_empty()));
+    // an elevation that rises each time, so that every row is written
+    let mut height = 0.0;
+    part("the record written", TIMES, &mut || {
+        height += 1e-3;
+        record::given_out(black_box(&mut board.record)).iter_mut().for_each(|row| record::hand_over(row, height, 1));
+    });
+    parts
 }
 
 /// The seconds of the tested program's parts, each by itself, at the setting of the world.

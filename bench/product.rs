@@ -74,18 +74,18 @@ extern "C" {
 pub struct Product;
 
 /// What every call writes besides its slices.
-struct Reply {
-    place: usize,
-    value: f64,
+pub struct Reply {
+    pub place: usize,
+    pub value: f64,
     clock: Clock,
 }
 
 impl Reply {
-    fn before(clock: Clock) -> Reply {
+    pub fn before(clock: Clock) -> Reply {
         Reply { place: 0, value: 0.0, clock }
     }
 
-    fn answer(&self, number: u32) -> Answer {
+    pub fn answer(&self, number: u32) -> Answer {
         Answer { number, place: self.place, value: self.value }
     }
 }

@@ -11,7 +11,8 @@ fn line(kind: u8, sequence: usize, fields: &[u8]) -> String {
     frame.iter().map(|byte| format!("{byte:02X}")).collect::<String>() + "\n"
 }
 
-fn patterns(values: &[f64]) -> Vec<u8> {
+/// Floats as bytes, big-endian.
+pub fn patterns(values: &[f64]) -> Vec<u8> {
     values.iter().flat_map(|value| value.to_bits().to_be_bytes()).collect()
 }
 

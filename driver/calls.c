@@ -1,5 +1,6 @@
 #include "calls.h"
 
+#include "gauges.h"
 #include "surge.h"
 
 #include <inttypes.h>
@@ -9,6 +10,10 @@
 #define MESH(s) LENT(s, X), LENT(s, Y), LENT(s, TRI), LENT(s, H), LENT(s, KIND)
 #define PARAMETERS(s) (s)->dt, (s)->tau, (s)->k, (s)->f, (s)->advection
 #define CLOCK(s) &(s)->step
+
+/* The same as the gauges' calls take it: a state and a mesh of bytes, and the parameters without advection. */
+#define BYTES(s) LENT(s, STATEBYTES), LENT(s, XBYTES), LENT(s, YBYTES), LENT(s, TRIBYTES), LENT(s, HBYTES), LENT(s, KINDBYTES)
+#define GAUGED(s) BYTES(s), (s)->dt, (s)->tau, (s)->k, (s)->f
 
 int script_begin(struct script *s, FILE *out)
 {
@@ -28,6 +33,13 @@ int script_begin(struct script *s, FILE *out)
         [FORCING] = {"forcing", FLOAT},
         [TEXT] = {"text", BYTE},
         [LINES] = {"lines", BYTE},
+        [RECORD] = {"record", BYTE},
+        [XBYTES] = {"xbytes", BYTE},
+        [YBYTES] = {"ybytes", BYTE},
+        [TRIBYTES] = {"tribytes", BYTE},
+        [HBYTES] = {"hbytes", BYTE},
+        [KINDBYTES] = {"kindbytes", BYTE},
+        [STATEBYTES] = {"statebytes", BYTE},
     };
     int fine = 1;
     int i;
@@ -109,4 +121,60 @@ void call_grid(struct script *s)
     double value;
     uint32_t number = surge_read_grid(LENT(s, X), LENT(s, Y), LENT(s, H), LENT(s, TRI), &place, &value, LENT(s, TEXT));
     print_answer(s->out, "grid", number, place, value);
+}
+
+/* A number that a gauge's call finds: a triangle or a gauge. */
+static void print_found(FILE *out, uint32_t found)
+{
+    fprintf(out, "found %" PRIu32 "\n", found);
+}
+
+void call_gauge_locate(struct script *s, int32_t px, int32_t py)
+{
+    uint32_t triangle;
+    size_t place;
+    double value;
+    uint32_t number = gauge_locate(&triangle, &place, &value, GAUGED(s), px, py);
+    print_answer(s->out, "gauge locate", number, place, value);
+    print_found(s->out, triangle);
+}
+
+void call_gauge_add(struct script *s, int32_t px, int32_t py)
+{
+    uint32_t gauge;
+    size_t place;
+    double value;
+    uint32_t number = gauge_add(LENT(s, RECORD), &gauge, &place, &value, GAUGED(s), px, py);
+    print_answer(s->out, "gauge add", number, place, value);
+    print_found(s->out, gauge);
+}
+
+void call_gauge_elevation(struct script *s, uint32_t gauge)
+{
+    double elevation;
+    size_t place;
+    double value;
+    uint32_t number = gauge_elevation(&elevation, &place, &value, LENT(s, RECORD), GAUGED(s), gauge);
+    print_answer(s->out, "gauge elevation", number, place, value);
+    fprintf(s->out, "found %016" PRIX64 "\n", pattern_of_made(elevation));
+}
+
+void call_gauge_update(struct script *s)
+{
+    size_t place;
+    double value;
+    uint32_t number = gauge_update(LENT(s, RECORD), &place, &value, GAUGED(s), s->step);
+    print_answer(s->out, "gauge update", number, place, value);
+}
+
+void call_gauge_peak(struct script *s, uint32_t gauge)
+{
+    uint8_t seen;
+    double peak;
+    uint32_t step;
+    size_t place;
+    double value;
+    uint32_t number = gauge_peak(&seen, &peak, &step, &place, &value, LENT(s, RECORD), gauge);
+    print_answer(s->out, "gauge peak", number, place, value);
+    fprintf(s->out, "found %" PRIu8 " %016" PRIX64 " %" PRIu32 "\n", seen, pattern_of_made(peak), step);
 }

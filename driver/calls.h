@@ -7,7 +7,11 @@
 #include <stdint.h>
 #include <stdio.h>
 
-enum slice_name { X, Y, TRI, H, KIND, STATE, NEXT, WORK, SUMS, FORCING, TEXT, LINES, SLICES };
+enum slice_name {
+    X, Y, TRI, H, KIND, STATE, NEXT, WORK, SUMS, FORCING, TEXT, LINES,
+    RECORD, XBYTES, YBYTES, TRIBYTES, HBYTES, KINDBYTES, STATEBYTES,
+    SLICES
+};
 
 struct script {
     struct slice slices[SLICES];
@@ -30,5 +34,10 @@ void call_save(struct script *s);
 void call_load(struct script *s);
 void call_read(struct script *s, uint32_t expected);
 void call_grid(struct script *s);
+void call_gauge_locate(struct script *s, int32_t px, int32_t py);
+void call_gauge_add(struct script *s, int32_t px, int32_t py);
+void call_gauge_elevation(struct script *s, uint32_t gauge);
+void call_gauge_update(struct script *s);
+void call_gauge_peak(struct script *s, uint32_t gauge);
 
 #endif

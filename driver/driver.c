@@ -1,6 +1,6 @@
 /*
- * Reads the scripts (docs/SCRIPT.md) that are named, or one from standard input, makes their calls over include/surge.h, and prints what they
- * hand back. Exit status: 0 where each script ended, 2 where one has a bad line, 1 where a file or memory failed.
+ * Reads the scripts (docs/SCRIPT.md) that are named, or one from standard input, makes their calls over include/surge.h and include/gauges.h,
+ * and prints what they hand back. Exit status: 0 where each script ended, 2 where one has a bad line, 1 where a file or memory failed.
  */
 #include "calls.h"
 
@@ -45,6 +45,12 @@ static int take_u32(struct words *w, uint32_t *to)
         return 0;
     *to = (uint32_t)v;
     return 1;
+}
+
+static int take_i32(struct words *w, int32_t *to)
+{
+    struct word word;
+    return next_word(w, &word) && signed_of(word, to);
 }
 
 static int take_float(struct words *w, double *to)
@@ -152,13 +158,46 @@ static enum outcome swap(struct script *s, struct words *w)
     return DONE;
 }
 
-/* ---- calls */
+/* The mesh and the state as the bytes that the gauges' calls take. */
+static enum outcome pack(struct script *s, struct words *w)
+{
+    static const enum slice_name pairs[][2] = {
+        {XBYTES, X}, {YBYTES, Y}, {TRIBYTES, TRI}, {HBYTES, H}, {KINDBYTES, KIND}, {STATEBYTES, STATE},
+    };
+    size_t i;
+    if (!is_last(w))
+        return BAD;
+    for (i = 0; i < sizeof pairs / sizeof pairs[0]; i++)
+        if (!slice_pack(&s->slices[pairs[i][0]], &s->slices[pairs[i][1]]))
+            return NO_MEMORY;
+    return DONE;
+}
+
+/* ---- calls: by the command alone, with a number, or at a point */
 
 static enum outcome call(struct script *s, struct words *w, void (*made)(struct script *))
 {
     if (!is_last(w))
         return BAD;
     made(s);
+    return DONE;
+}
+
+static enum outcome call_with(struct script *s, struct words *w, void (*made)(struct script *, uint32_t))
+{
+    uint32_t number;
+    if (!take_u32(w, &number) || !is_last(w))
+        return BAD;
+    made(s, number);
+    return DONE;
+}
+
+static enum outcome call_at(struct script *s, struct words *w, void (*made)(struct script *, int32_t, int32_t))
+{
+    int32_t px, py;
+    if (!take_i32(w, &px) || !take_i32(w, &py) || !is_last(w))
+        return BAD;
+    made(s, px, py);
     return DONE;
 }
 
@@ -184,16 +223,37 @@ static enum outcome command_load(struct script *s, struct words *w)
 
 static enum outcome command_read(struct script *s, struct words *w)
 {
-    uint32_t expected;
-    if (!take_u32(w, &expected) || !is_last(w))
-        return BAD;
-    call_read(s, expected);
-    return DONE;
+    return call_with(s, w, call_read);
 }
 
 static enum outcome command_grid(struct script *s, struct words *w)
 {
     return call(s, w, call_grid);
+}
+
+static enum outcome command_locate(struct script *s, struct words *w)
+{
+    return call_at(s, w, call_gauge_locate);
+}
+
+static enum outcome command_add(struct script *s, struct words *w)
+{
+    return call_at(s, w, call_gauge_add);
+}
+
+static enum outcome command_elevation(struct script *s, struct words *w)
+{
+    return call_with(s, w, call_gauge_elevation);
+}
+
+static enum outcome command_update(struct script *s, struct words *w)
+{
+    return call(s, w, call_gauge_update);
+}
+
+static enum outcome command_peak(struct script *s, struct words *w)
+{
+    return call_with(s, w, call_gauge_peak);
 }
 
 /* ---- printing */
@@ -234,12 +294,39 @@ static enum outcome echo(struct script *s, struct words *w)
 
 /* ---- the script */
 
+struct known {
+    const char *name;
+    enum outcome (*does)(struct script *, struct words *);
+};
+
+/* Does what the next word names: a bad line where it names nothing. */
+static enum outcome command_of(const struct known *commands, size_t count, struct script *s, struct words *w)
+{
+    struct word name;
+    size_t i;
+    if (!next_word(w, &name))
+        return BAD;
+    for (i = 0; i < count; i++)
+        if (is_text(name, commands[i].name))
+            return commands[i].does(s, w);
+    return BAD;
+}
+
+static enum outcome gauge(struct script *s, struct words *w)
+{
+    static const struct known commands[] = {
+        {"locate", command_locate},
+        {"add", command_add},
+        {"elevation", command_elevation},
+        {"update", command_update},
+        {"peak", command_peak},
+    };
+    return command_of(commands, sizeof commands / sizeof commands[0], s, w);
+}
+
 static enum outcome command(struct script *s, const char *line, size_t length)
 {
-    static const struct {
-        const char *name;
-        enum outcome (*does)(struct script *, struct words *);
-    } commands[] = {
+    static const struct known commands[] = {
         {"set", set},
         {"fill", fill},
         {"put", put},
@@ -248,27 +335,22 @@ static enum outcome command(struct script *s, const char *line, size_t length)
         {"parameters", parameters},
         {"clock", clock_is},
         {"swap", swap},
+        {"pack", pack},
         {"open", command_open},
         {"step", command_step},
         {"save", command_save},
         {"load", command_load},
         {"read", command_read},
         {"grid", command_grid},
+        {"gauge", gauge},
         {"print", print},
         {"digest", digest},
         {"echo", echo},
     };
     struct words w = words_of(line, length);
-    struct word name;
-    size_t i;
     if (length == 0 || line[0] == '#')
         return DONE;
-    if (!next_word(&w, &name))
-        return BAD;
-    for (i = 0; i < sizeof commands / sizeof commands[0]; i++)
-        if (is_text(name, commands[i].name))
-            return commands[i].does(s, &w);
-    return BAD;
+    return command_of(commands, sizeof commands / sizeof commands[0], s, &w);
 }
 
 /* The bytes of one line, with room that grows. */

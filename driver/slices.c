@@ -89,6 +89,42 @@ void slice_keep(struct slice *s, size_t count)
         s->count = count;
 }
 
+/* The bits of element i, a float's by its own pattern. */
+static uint64_t bits(const struct slice *s, size_t i)
+{
+    union element e;
+    memcpy(&e, place(s, i), width(s->form));
+    switch (s->form) {
+    case SIGNED_32:
+        return (uint32_t)e.i32;
+    case UNSIGNED_16:
+        return e.u16;
+    case UNSIGNED_64:
+        return e.u64;
+    case FLOAT:
+        return pattern_of(e.f64);
+    case UNSIGNED_8:
+    case BYTE:
+        break;
+    }
+    return e.u8;
+}
+
+/* The bytes are as many as the elements' own, so that their number cannot wrap. */
+int slice_pack(struct slice *to, const struct slice *from)
+{
+    size_t wide = width(from->form), i, k;
+    uint8_t *byte;
+    if (!grow(to, from->count * wide))
+        return 0;
+    to->count = from->count * wide;
+    byte = to->at;
+    for (i = 0; i < from->count; i++)
+        for (k = wide; k > 0; k--)
+            *byte++ = (uint8_t)(bits(from, i) >> 8 * (k - 1));
+    return 1;
+}
+
 void slice_one_nan(struct slice *s)
 {
     size_t i;
@@ -147,34 +183,32 @@ static size_t spell_decimal(uint64_t v, char *to)
     return length;
 }
 
-static size_t spell_signed(int64_t v, char *to)
+/* A signed number, by its 32 bits. */
+static size_t spell_signed(uint64_t v, char *to)
 {
-    if (v >= 0)
-        return spell_decimal((uint64_t)v, to);
+    if (v <= INT32_MAX)
+        return spell_decimal(v, to);
     *to = '-';
-    return 1 + spell_decimal((uint64_t)-v, to + 1);
+    return 1 + spell_decimal(UINT64_C(0x100000000) - v, to + 1);
 }
 
 /* The word of element i. */
 static size_t spell(const struct slice *s, size_t i, char to[WORD_ROOM])
 {
-    union element e;
-    memcpy(&e, place(s, i), width(s->form));
+    uint64_t v = bits(s, i);
     switch (s->form) {
     case SIGNED_32:
-        return spell_signed(e.i32, to);
+        return spell_signed(v, to);
     case FLOAT:
-        return spell_hex(pattern_of(e.f64), 16, to);
-    case UNSIGNED_64:
-        return spell_decimal(e.u64, to);
-    case UNSIGNED_16:
-        return spell_decimal(e.u16, to);
-    case UNSIGNED_8:
-        return spell_decimal(e.u8, to);
+        return spell_hex(v, 16, to);
     case BYTE:
+        return spell_hex(v, 2, to);
+    case UNSIGNED_8:
+    case UNSIGNED_16:
+    case UNSIGNED_64:
         break;
     }
-    return spell_hex(e.u8, 2, to);
+    return spell_decimal(v, to);
 }
 
 void slice_print(const struct slice *s, FILE *out)

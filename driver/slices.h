@@ -42,6 +42,9 @@ int slice_add(struct slice *s, union element e, size_t times);
 void slice_put(struct slice *s, size_t at, union element e);
 void slice_keep(struct slice *s, size_t count);
 
+/* A slice of bytes becomes the bytes of another slice, each element's most significant first: 0 where there is no memory for them. */
+int slice_pack(struct slice *to, const struct slice *from);
+
 /* Gives every NaN of a slice of floats the one pattern that a call's NaNs are printed by: which one it wrote means nothing. */
 void slice_one_nan(struct slice *s);
 

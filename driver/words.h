@@ -35,8 +35,9 @@ int float_of(struct word w, double *to);
 int count_of(struct word w, size_t *to);
 
 /*
- * The pattern by which a float is printed: its own where a slice holds it. One that a call made, the value of an answer or a number of a
- * forcing that was read, has the same pattern for every NaN. A double is moved in a register that keeps each pattern, a signalling NaN's too.
+ * The pattern by which a float is printed: its own where a slice holds it. One that a call made, the value of an answer, a number of a
+ * forcing that was read or what a gauge has, has the same pattern for every NaN. A double is moved in a register that keeps each pattern,
+ * a signalling NaN's too.
  */
 uint64_t pattern_of(double v);
 uint64_t pattern_of_made(double v);

@@ -6,6 +6,7 @@ mod advection;
 mod conditions;
 mod forcings;
 mod friction;
+mod gauges;
 mod grids;
 mod layouts;
 mod names;
@@ -16,15 +17,19 @@ mod wanted;
 mod winds;
 
 use crate::generate::{generate, Family};
+use crate::script::gauges::Gauge;
 use crate::script::{run_watched, Call, Called, Script};
 use conditions::conditions;
 use std::collections::{BTreeMap, BTreeSet};
 use wanted::{all_conditions, Reached};
 
-/// Every number that a call can answer.
+/// Every number that a call other than those on gauges can answer.
 const NUMBERS: [u32; 24] = [
     0, 1, 2, 3, 4, 5, 6, 7, 8, 9, 10, 11, 12, 13, 20, 21, 22, 23, 24, 25, 30, 31, 32, 33,
 ];
+
+/// The numbers of request #106.
+const GAUGE_NUMBERS: [u32; 4] = [40, 41, 42, 43];
 
 /// The row whose places are told apart.
 const PLACED: u32 = 9;
@@ -72,6 +77,7 @@ struct Trail {
     latest: spellings::Latest,
     loaded: texts::Loaded,
     mixed: forcings::Mixed,
+    followed: gauges::Followed,
 }
 
 impl Trail {
@@ -82,6 +88,20 @@ impl Trail {
         if number == PLACED {
             self.places.insert((call, number, called.answer.place));
         }
+        let mut met = self.followed.follow(called);
+        if let Call::Gauge(gauge) = call {
+            met.extend(gauges::conditions(script, called, gauge));
+        } else {
+            met.extend(self.of_a_run(script, called));
+        }
+        for condition in met {
+            self.conditions.insert((call, number, condition));
+        }
+    }
+
+    /// What is said of a call that is not on gauges.
+    fn of_a_run(&mut self, script: &Script, called: Called) -> Vec<String> {
+        let (call, number) = (called.call, called.answer.number);
         let mut met = conditions(script, called);
         met.extend(nans::kept(script, called));
         met.extend(spellings::conditions(script, called));
@@ -94,15 +114,12 @@ impl Trail {
         if call == Call::Step {
             met.extend(self.thirds(&met));
         }
-        for condition in met {
-            self.conditions.insert((call, number, condition));
-        }
         if call == Call::Grid {
             self.mesh_read = number == 0;
         } else if self.mesh_read {
-            let condition = String::from(grids::ON_READ);
-            self.conditions.insert((call, number, condition));
+            met.push(String::from(grids::ON_READ));
         }
+        met
     }
 
     /// What is said of the third step in a row that meets the same.
@@ -140,6 +157,9 @@ fn pairs(printed: &[u8]) -> BTreeSet<(u32, u32)> {
 #[derive(Default)]
 struct Coverage {
     wanted: Vec<Reached>,
+    /// Whether the scripts are of gauges, whose calls and numbers the table then
+    /// has.
+    of_gauges: bool,
     scripts: usize,
     bad_lines: usize,
     calls: usize,
@@ -193,18 +213,25 @@ impl Coverage {
 
     /// A row for each number, a column for each call.
     fn numbers_table(&self) -> String {
+        let (mut calls, mut numbers) = (Call::ALL.to_vec(), NUMBERS.to_vec());
+        if self.of_gauges {
+            calls.extend(Gauge::ALL.map(Call::Gauge));
+            numbers.extend(GAUGE_NUMBERS);
+        }
+        let width = |call: Call| call.name().len().max(4) + 3;
         let mut table = String::from("number");
-        for call in Call::ALL {
-            table += &format!("{:>7}", call.name());
+        for &call in &calls {
+            table += &format!("{:>1$}", call.name(), width(call));
         }
         table += "\n";
-        for number in NUMBERS {
+        for number in numbers {
             table += &format!("{number:>6}");
-            for call in Call::ALL {
-                match self.numbers.of(&(call, number)) {
-                    0 => table += "      -",
-                    scripts => table += &format!("{scripts:>7}"),
-                }
+            for &call in &calls {
+                let scripts = match self.numbers.of(&(call, number)) {
+                    0 => String::from("-"),
+                    scripts => scripts.to_string(),
+                };
+                table += &format!("{scripts:>0$}", width(call));
             }
             table += "\n";
         }
@@ -227,6 +254,7 @@ impl Coverage {
 pub fn coverage(family: Family, seed: u64, first: u64, count: u64) -> (String, bool) {
     let mut coverage = Coverage {
         wanted: all_conditions(family),
+        of_gauges: family == Family::Gauges,
         ..Coverage::default()
     };
     for index in first..first.saturating_add(count) {

@@ -5,6 +5,7 @@
 pub(crate) mod dice;
 mod faults;
 mod forcings;
+mod gauges;
 mod grids;
 mod lines;
 mod nans;
@@ -29,6 +30,8 @@ pub enum Family {
     Runs,
     /// Grid texts, and runs on the meshes that are read from them.
     Grids,
+    /// Gauges, and the runs whose states are handed over to them.
+    Gauges,
 }
 
 /// The script of a family, a seed and an index.
@@ -42,6 +45,10 @@ pub fn generate(family: Family, seed: u64, index: u64) -> Vec<u8> {
         Family::Grids => {
             pen.say(format!("# grids, seed {seed}, script {index}"));
             grids::grids(&mut pen);
+        }
+        Family::Gauges => {
+            pen.say(format!("# gauges, seed {seed}, script {index}"));
+            gauges::gauges(&mut pen);
         }
     }
     pen.into_text()

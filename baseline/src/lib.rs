@@ -14,6 +14,8 @@
 //! - [`forcings`]: the lines of one forcing, [`read_forcing`];
 //! - [`saves`]: [`save`] and [`load`], of both editions;
 //! - [`grids`]: lines, fields and numbers of a grid text, [`read_grid`];
+//! - [`gauges`]: where a point lies, its elevation, and the record of peaks, from
+//!   [`gauge_locate`] to [`gauge_peak`], on byte slices;
 //! - [`printing`]: the printing program and example 13 on mesh T;
 //! - [`cases`](mod@cases): inputs on which the printing program is tried;
 //! - [`script`]: calls written down, as `docs/SCRIPT.md` says, [`run`];
@@ -27,6 +29,7 @@ pub mod cases;
 pub mod coverage;
 pub mod forcings;
 pub mod frames;
+pub mod gauges;
 pub mod generate;
 pub mod grids;
 pub mod mesh;
@@ -42,6 +45,8 @@ mod tests;
 pub use cases::{cases, Case};
 pub use coverage::coverage;
 pub use forcings::read_forcing;
+pub use gauges::{gauge_add, gauge_elevation, gauge_locate, gauge_peak, gauge_update};
+pub use gauges::{Crossed, Highest};
 pub use generate::{generate, Family};
 pub use grids::read_grid;
 pub use mesh::open;

@@ -14,7 +14,8 @@
 //!   they reach; the exit status is 1 where something is missed.
 //!
 //! `generate` and `coverage` take the word `grids` before the seed, for the
-//! scripts of grid texts; without it they are those of runs and forcings.
+//! scripts of grid texts, or `gauges`, for those of gauges; without it they are
+//! those of runs and forcings.
 
 use baseline::Family;
 use std::env;
@@ -29,8 +30,9 @@ use std::process::ExitCode;
 const BAD_LINE: u8 = 2;
 
 const USAGE: &str = "usage: baseline print | example13 | cases DIR | script [FILE…]
-    | generate [grids] SEED INDEX | generate [grids] SEED FIRST COUNT DIR
-    | coverage [grids] SEED FIRST COUNT";
+    | generate [FAMILY] SEED INDEX | generate [FAMILY] SEED FIRST COUNT DIR
+    | coverage [FAMILY] SEED FIRST COUNT
+FAMILY is grids or gauges";
 
 fn main() -> ExitCode {
     let mut arguments = env::args_os().skip(1);
@@ -113,6 +115,7 @@ fn usage() -> io::Error {
 fn family(arguments: &[OsString]) -> (Family, &[OsString]) {
     match arguments {
         [first, rest @ ..] if first == "grids" => (Family::Grids, rest),
+        [first, rest @ ..] if first == "gauges" => (Family::Gauges, rest),
         _ => (Family::Runs, arguments),
     }
 }

@@ -2,15 +2,18 @@
 //! and prints what they hand back". Comments in quotation marks are sentences
 //! of `docs/SCRIPT.md`.
 
+pub(crate) mod gauges;
 pub(crate) mod slices;
 
 use crate::forcings::read_forcing;
 use crate::frames::pattern;
+use crate::gauges::Point;
 use crate::grids::read_grid;
 use crate::mesh::open;
 use crate::records::{Answer, Clock, Parameters};
 use crate::saves::{load, save};
 use crate::step::step;
+use gauges::Gauge;
 use slices::{Byte, Decimal, Float, Form, Held, Slice, Words};
 use std::io::Write;
 use std::mem::swap;
@@ -23,7 +26,7 @@ pub struct Printed {
     pub bad_line: Option<usize>,
 }
 
-/// The six calls.
+/// The calls.
 #[derive(Clone, Copy, Debug, PartialEq, Eq, PartialOrd, Ord)]
 pub(crate) enum Call {
     Open,
@@ -32,10 +35,11 @@ pub(crate) enum Call {
     Load,
     Read,
     Grid,
+    Gauge(Gauge),
 }
 
 impl Call {
-    /// Every call.
+    /// Every call but those on gauges.
     pub const ALL: [Call; 6] = [
         Call::Open,
         Call::Step,
@@ -45,7 +49,7 @@ impl Call {
         Call::Grid,
     ];
 
-    /// The call that a command makes.
+    /// The call that a command of one word makes.
     fn of(command: &[u8]) -> Option<Call> {
         Call::ALL
             .into_iter()
@@ -61,6 +65,7 @@ impl Call {
             Call::Load => "load",
             Call::Read => "read",
             Call::Grid => "grid",
+            Call::Gauge(gauge) => gauge.name(),
         }
     }
 }
@@ -74,6 +79,10 @@ pub(crate) struct Called {
     pub expected: u32,
     /// The clock that went in.
     pub clock: Clock,
+    /// The point of a `gauge locate` or a `gauge add`, else (0, 0).
+    pub point: Point,
+    /// The number that a `gauge elevation` or a `gauge peak` asks for, else 0.
+    pub gauge: u32,
 }
 
 /// "A line that is none of the commands below, or has a word that is not of its
@@ -94,6 +103,15 @@ pub(crate) struct Script {
     pub forcing: Held<Float>,
     pub text: Held<Byte>,
     pub lines: Held<Byte>,
+    pub record: Held<Byte>,
+    /// The record as the latest call on gauges was lent it.
+    pub record_lent: Vec<u8>,
+    pub xbytes: Held<Byte>,
+    pub ybytes: Held<Byte>,
+    pub tribytes: Held<Byte>,
+    pub hbytes: Held<Byte>,
+    pub kindbytes: Held<Byte>,
+    pub statebytes: Held<Byte>,
     pub p: Parameters,
     /// The word of the parameters' setting.
     pub advection: u8,
@@ -145,6 +163,14 @@ impl Script {
             forcing: Held::empty(),
             text: Held::empty(),
             lines: Held::empty(),
+            record: Held::empty(),
+            record_lent: Vec::new(),
+            xbytes: Held::empty(),
+            ybytes: Held::empty(),
+            tribytes: Held::empty(),
+            hbytes: Held::empty(),
+            kindbytes: Held::empty(),
+            statebytes: Held::empty(),
             p: Parameters {
                 dt: 0.0,
                 tau: 0.0,
@@ -172,7 +198,11 @@ impl Script {
     fn command(&mut self, line: &[u8]) -> Option<Option<Called>> {
         let mut words = Words::of(line);
         let command = words.next()?;
-        if let Some(call) = Call::of(command) {
+        let call = match command {
+            b"gauge" => Some(Call::Gauge(Gauge::of(words.next()?)?)),
+            _ => Call::of(command),
+        };
+        if let Some(call) = call {
             return self.call(call, words).map(Some);
         }
         match command {
@@ -190,6 +220,7 @@ impl Script {
             b"parameters" => (self.p, self.advection) = read_parameters(&mut words)?,
             b"clock" => self.clock.step = words.read::<Decimal<u32>>()?,
             b"swap" => swap(&mut self.state, &mut self.next),
+            b"pack" => self.pack(),
             of_slice => {
                 let slice = self.slice(words.next()?)?;
                 return slice_setting(slice, of_slice, words);
@@ -213,17 +244,32 @@ impl Script {
             b"forcing" => &mut self.forcing,
             b"text" => &mut self.text,
             b"lines" => &mut self.lines,
+            b"record" => &mut self.record,
+            b"xbytes" => &mut self.xbytes,
+            b"ybytes" => &mut self.ybytes,
+            b"tribytes" => &mut self.tribytes,
+            b"hbytes" => &mut self.hbytes,
+            b"kindbytes" => &mut self.kindbytes,
+            b"statebytes" => &mut self.statebytes,
             _ => return None,
         })
     }
 
     /// "Each call lends the slices of its name in the table, and prints one
-    /// line, or two." "EXPECTED is a 32-bit unsigned number".
+    /// line, or two." "EXPECTED is a 32-bit unsigned number", "PX and PY are 32-bit
+    /// signed numbers, G is a 32-bit unsigned one".
     fn call(&mut self, call: Call, mut words: Words) -> Option<Called> {
-        let expected = match call {
-            Call::Read => words.read::<Decimal<u32>>()?,
-            _ => 0,
-        };
+        let (mut expected, mut point, mut gauge) = (0, [0; 2], 0);
+        match call {
+            Call::Read => expected = words.read::<Decimal<u32>>()?,
+            Call::Gauge(Gauge::Locate | Gauge::Add) => {
+                point = [words.read::<Decimal<i32>>()?, words.read::<Decimal<i32>>()?];
+            }
+            Call::Gauge(Gauge::Elevation | Gauge::Peak) => {
+                gauge = words.read::<Decimal<u32>>()?;
+            }
+            _ => (),
+        }
         words.end()?;
         let clock = self.clock;
         let answer = match call {
@@ -251,12 +297,15 @@ impl Script {
                 let answer = self.grid();
                 self.print_answer(call, answer)
             }
+            Call::Gauge(of_five) => self.gauge(of_five, point, gauge),
         };
         Some(Called {
             call,
             answer,
             expected,
             clock,
+            point,
+            gauge,
         })
     }
 

@@ -1,12 +1,14 @@
 //! Plain Rust that makes the same refusal tests, without `unsafe`.
 
 pub mod forcings;
+pub mod gauges;
 pub mod grids;
 mod lines;
 pub mod mesh;
 pub mod saves;
 pub mod step;
 
+use crate::gauges::{Gauges, Highest, Lent, Point};
 use crate::run::{Answer, Clock, GridRooms, Mesh, Program, Rooms};
 
 /// In the forms that one would choose, or in those that are set for the product: row 6 by pairs of triangles, as document 01 has it, and not by the
@@ -67,5 +69,35 @@ impl Program for Tested {
             Ok(()) => Answer::accepted(0),
             Err(refusal) => refusal,
         }
+    }
+}
+
+/// What a call found, or what a refused one hands back in its place.
+fn found<T>(outcome: Result<T, Answer>, nothing: T) -> (Answer, T) {
+    match outcome {
+        Ok(found) => (Answer::accepted(0), found),
+        Err(refusal) => (refusal, nothing),
+    }
+}
+
+impl Gauges for Tested {
+    #[inline(never)]
+    fn add(&self, record: &mut [u8], lent: Lent, point: Point) -> (Answer, u32) {
+        found(gauges::add(record, lent, point), 0)
+    }
+
+    #[inline(never)]
+    fn elevation(&self, record: &[u8], lent: Lent, gauge: u32) -> (Answer, f64) {
+        found(gauges::elevation(record, lent, gauge), 0.0)
+    }
+
+    #[inline(never)]
+    fn update(&self, record: &mut [u8], lent: Lent, step: u32) -> Answer {
+        found(gauges::update(record, lent, step), ()).0
+    }
+
+    #[inline(never)]
+    fn peak(&self, record: &[u8], gauge: u32) -> (Answer, Highest) {
+        found(gauges::peak(record, gauge), Highest::NONE)
     }
 }

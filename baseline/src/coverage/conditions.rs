@@ -263,7 +263,7 @@ fn node(script: &Script, call: Call, place: usize) -> Vec<String> {
     if call == Call::Save {
         let short = script.text.0.len() < save_length(script.x.0.len());
         met.extend(short.then(|| String::from("24 too")));
-    } else {
+    } else if call == Call::Step {
         let last = script.clock.step == u32::MAX;
         met.extend(last.then(|| String::from("11 too")));
         met.extend(row_12_too(script));
@@ -422,10 +422,10 @@ fn room(script: &Script, needed: usize) -> String {
 
 /// The limits that an accepted call on a run stood at.
 fn accepted(script: &Script, call: Call) -> Vec<String> {
-    let mut met = sizes(script);
-    if call != Call::Open && has_leg_twice(script) {
-        met.push(String::from("a leg twice"));
-    }
+    let mut met = match call {
+        Call::Open => sizes(script),
+        _ => accepted_mesh(script),
+    };
     match call {
         Call::Step => {
             met.extend(step_limits(script));
@@ -439,6 +439,18 @@ fn accepted(script: &Script, call: Call) -> Vec<String> {
         }
         Call::Load => met.extend(texts::accepted(script)),
         _ => (),
+    }
+    met
+}
+
+/// What is said of a mesh that has a leg twice.
+pub(crate) const LEG_TWICE: &str = "a leg twice";
+
+/// The limits that the mesh of an accepted call other than `open` stood at.
+pub(crate) fn accepted_mesh(script: &Script) -> Vec<String> {
+    let mut met = sizes(script);
+    if has_leg_twice(script) {
+        met.push(String::from(LEG_TWICE));
     }
     met
 }

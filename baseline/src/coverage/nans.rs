@@ -20,6 +20,7 @@ fn rows(call: Call) -> &'static [u32] {
         Call::Load => &[1, 2, 3, 4, 5, 7, 8, 9, 10, 20, 21, 22, 23, 25],
         Call::Read => &[1, 20, 21, 22],
         Call::Grid => &[30, 31, 32, 33],
+        Call::Gauge(_) => &[],
     }
 }
 

@@ -1,9 +1,10 @@
 //! All that a coverage is to reach.
 
 use super::advection;
-use super::conditions::all_behind;
+use super::conditions::{all_behind, LEG_TWICE};
 use super::forcings;
 use super::friction;
+use super::gauges;
 use super::grids;
 use super::names::{lent_to, other_length, LIMITS, OTHER_LENGTHS};
 use super::names::{PARAMETER_NAMES, RUN_NAMES, SIDES};
@@ -25,6 +26,7 @@ pub(crate) fn all_conditions(family: Family) -> Vec<Reached> {
     match family {
         Family::Runs => runs_and_lines(),
         Family::Grids => grids::all_conditions(),
+        Family::Gauges => gauges::all_conditions(),
     }
 }
 
@@ -36,7 +38,7 @@ fn runs_and_lines() -> Vec<Reached> {
         all.extend(mesh_rows(call));
         all.extend(of(call, 0, &["N 3", "N 4096", "E 1", "E 8192"]));
         if call != Call::Open {
-            all.extend(of(call, 0, &["a leg twice"]));
+            all.extend(of(call, 0, &[LEG_TWICE]));
             all.extend(row_10(call));
         }
     }
@@ -59,7 +61,7 @@ fn runs_and_lines() -> Vec<Reached> {
 }
 
 /// Row 10, of a load in each edition: an edition 1 text has the head's wind.
-fn row_10(call: Call) -> Vec<Reached> {
+pub(crate) fn row_10(call: Call) -> Vec<Reached> {
     let mut all = Vec::new();
     let editions: &[&str] = match call {
         Call::Load => &["edition 1 ", "edition 2 "],
@@ -109,7 +111,7 @@ fn lengths(call: Call) -> Vec<Reached> {
 }
 
 /// Rows 3 to 9 but 6.
-fn mesh_rows(call: Call) -> Vec<Reached> {
+pub(crate) fn mesh_rows(call: Call) -> Vec<Reached> {
     let corners = ["corner 1", "corner 2", "corner 3"];
     let sides = ["a1", "a2", "a3", "b1", "b2", "b3"];
     let beyond_sides = ["100,001", "-100,001", "far above", "far below"];

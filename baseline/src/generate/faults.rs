@@ -82,6 +82,12 @@ fn fault(pen: &mut Pen) -> u32 {
     // Slices that are long already would make a long script if undone whole.
     let long = pen.nodes() > 300 || pen.triangles() > 1_000;
     let row = pen.dice.one_of(&ROWS[if long { SINGLE } else { 0 }..]);
+    break_row(pen, row);
+    row
+}
+
+/// A fault that is meant for this row; row 20 stands for those of the text.
+pub(crate) fn break_row(pen: &mut Pen, row: u32) {
     match row {
         1 => length(pen),
         2 => counts(pen),
@@ -98,7 +104,6 @@ fn fault(pen: &mut Pen) -> u32 {
         20 => text(pen),
         _ => room(pen),
     }
-    row
 }
 
 /// 1: "triangle list no multiple of 3, or a slice of another length": one

@@ -24,7 +24,7 @@ fn rooms_of(call: Call) -> &'static [&'static str] {
         Call::Step => &["state", "next", "work", "sums", "forcing"],
         Call::Save | Call::Load => &["state", "text"],
         Call::Read => &["forcing", "lines"],
-        Call::Grid => &[],
+        Call::Grid | Call::Gauge(_) => &[],
     }
 }
 
@@ -223,12 +223,13 @@ impl Pen {
         }
     }
 
-    /// Makes the text or the lines these bytes, the shorter way: by a command for
+    /// Makes the text, the lines or the record these bytes, the shorter way: by a command for
     /// each byte that differs, or by all bytes from the first of them on.
     pub fn become_bytes(&mut self, name: &str, bytes: &[u8]) {
         let held = match name {
             "text" => self.script.text.0.clone(),
-            _ => self.script.lines.0.clone(),
+            "lines" => self.script.lines.0.clone(),
+            _ => self.script.record.0.clone(),
         };
         let pairs = || bytes.iter().zip(&held);
         let same = pairs().take_while(|(new, old)| new == old).count();

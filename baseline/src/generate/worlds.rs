@@ -340,10 +340,30 @@ impl World {
     /// Adds overlapping triangles until there are this many; rows 4 to 6 let
     /// each of them through.
     pub fn crowd(&mut self, dice: &mut Dice, triangles: usize) {
-        let mut seen: HashSet<_> = self.triangles.iter().copied().flat_map(legs).collect();
+        let mut seen = self.seen();
         while self.triangles.len() < triangles {
-            let corners = [0; 3].map(|_| dice.below(self.points.len()));
-            lay(&self.points, &mut self.triangles, &mut seen, corners);
+            self.lay_any(dice, &mut seen);
         }
+    }
+
+    /// Tries so many triangles, adds those that rows 4 to 6 let through, and gives
+    /// all of them any order.
+    pub fn overlap(&mut self, dice: &mut Dice, tries: usize) {
+        let mut seen = self.seen();
+        for _ in 0..tries {
+            self.lay_any(dice, &mut seen);
+        }
+        dice.shuffle(&mut self.triangles);
+    }
+
+    /// The directed legs of all triangles.
+    fn seen(&self) -> HashSet<(usize, usize)> {
+        self.triangles.iter().copied().flat_map(legs).collect()
+    }
+
+    /// Adds a triangle with any corners, where rows 4 to 6 let it through.
+    fn lay_any(&mut self, dice: &mut Dice, seen: &mut HashSet<(usize, usize)>) {
+        let corners = [0; 3].map(|_| dice.below(self.points.len()));
+        lay(&self.points, &mut self.triangles, seen, corners);
     }
 }

@@ -90,7 +90,7 @@ impl Form for Float {
     }
 }
 
-/// "A byte of a text is written as two hexadecimal digits, upper case."
+/// "A byte is written as two hexadecimal digits, upper case."
 pub(crate) struct Byte;
 
 impl Form for Byte {

@@ -32,7 +32,7 @@ fn draws_stay_in_their_range() {
     assert_eq!(dice.between(5, 5), 5);
 }
 
-const FAMILIES: [Family; 2] = [Family::Runs, Family::Grids];
+const FAMILIES: [Family; 3] = [Family::Runs, Family::Grids, Family::Gauges];
 
 #[test]
 fn same_seed_same_text() {
@@ -51,10 +51,8 @@ fn same_seed_same_text() {
 /// changes only where the generator is changed.
 #[test]
 fn the_scripts_of_seed_1_are_these() {
-    for (family, digest) in FAMILIES
-        .into_iter()
-        .zip(["447AB699156D1CE8", "EB4F1D6A1156CA1D"])
-    {
+    let digests = ["447AB699156D1CE8", "EB4F1D6A1156CA1D", "CF23609F76F2D2FA"];
+    for (family, digest) in FAMILIES.into_iter().zip(digests) {
         let mut hash = 0xCBF2_9CE4_8422_2325_u64;
         for byte in (0..100).flat_map(|index| generate(family, 1, index)) {
             hash = (hash ^ u64::from(byte)).wrapping_mul(0x0000_0100_0000_01B3);
@@ -203,6 +201,20 @@ fn meshes_that_are_not_raw_can_be_opened() {
 }
 
 #[test]
+fn meshes_with_overlapping_triangles_can_be_opened() {
+    let mut added = 0;
+    for index in 0..100 {
+        let mut dice = Dice::of(9, index);
+        let mut world = world(&mut dice, 8, Manner::Calm);
+        let triangles = world.triangles.len();
+        world.overlap(&mut dice, 40);
+        assert_eq!(opened(&world), 0, "mesh {index}");
+        added += world.triangles.len() - triangles;
+    }
+    assert!(added > 100);
+}
+
+#[test]
 fn raw_meshes_are_refused_by_rows_4_to_7_and_no_other() {
     let numbers: Vec<u32> = (0..300)
         .map(|index| opened(&world(&mut Dice::of(4, index), 12, Manner::Raw)))
@@ -229,7 +241,10 @@ fn coverage_tells_what_was_reached_and_what_was_missed() {
     for family in FAMILIES {
         let (text, whole) = coverage(family, 1, 0, 20);
         assert!(text.starts_with("scripts 20, with a bad line 0, calls "));
-        assert!(text.contains("\nnumber   open   step   save   load   read   grid\n"));
+        let calls = "\nnumber   open   step   save   load   read   grid";
+        let gauges = family == Family::Gauges;
+        assert_eq!(text.contains(&format!("{calls}\n")), !gauges);
+        assert_eq!(text.contains(&format!("{calls}   gauge locate ")), gauges);
         assert!(text.contains("\nmissed: "));
         assert!(!whole);
     }
@@ -238,7 +253,7 @@ fn coverage_tells_what_was_reached_and_what_was_missed() {
 /// Those that the gate compares with the product.
 #[test]
 fn the_first_scripts_of_seed_1_reach_every_condition() {
-    for (family, count) in FAMILIES.into_iter().zip([2_000, 1_000]) {
+    for (family, count) in FAMILIES.into_iter().zip([2_000, 1_000, 1_000]) {
         let (text, whole) = coverage(family, 1, 0, count);
         assert!(whole, "{text}");
     }

@@ -2,6 +2,7 @@
 
 mod examples;
 mod forcings;
+mod gauges;
 mod generate;
 mod grids;
 mod mesh;

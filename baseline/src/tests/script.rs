@@ -48,7 +48,25 @@ fn nothing_prints_nothing() {
 #[test]
 fn every_slice_is_empty_at_the_start() {
     for name in [
-        "x", "y", "tri", "h", "kind", "state", "next", "work", "sums", "forcing", "text", "lines",
+        "x",
+        "y",
+        "tri",
+        "h",
+        "kind",
+        "state",
+        "next",
+        "work",
+        "sums",
+        "forcing",
+        "text",
+        "lines",
+        "record",
+        "xbytes",
+        "ybytes",
+        "tribytes",
+        "hbytes",
+        "kindbytes",
+        "statebytes",
     ] {
         printed_as(&format!("print {name}\n"), &format!("set {name}\n"));
     }
@@ -66,6 +84,13 @@ fn elements_at_the_ends_of_their_forms() {
         "set state 7FF0000000000000 FFF0000000000000",
         "set text 00 0A 7F FF",
         "set lines 30 0D",
+        "set record 00 FF",
+        "set xbytes 80 00 00 00",
+        "set ybytes 7F",
+        "set tribytes FF FF 00",
+        "set hbytes 7F F0",
+        "set kindbytes 02 FF",
+        "set statebytes FF F7 01",
         "set forcing 8000000000000000 FFF7FFFFFFFFFFFF",
     ] {
         let name = line.split(' ').nth(1).unwrap();
@@ -609,6 +634,156 @@ fn grid_fills_the_rooms_of_a_mesh() {
     );
     printed_as("grid\n", &format!("grid 30 0 {ZERO}\n"));
     bad("grid 1");
+}
+
+/// "big-endian, each float by its own pattern".
+#[test]
+fn pack_gives_the_bytes_of_the_mesh_and_the_state() {
+    let prints = "print xbytes\nprint ybytes\nprint tribytes\nprint hbytes\nprint kindbytes\nprint statebytes\n";
+    printed_as(
+        &format!(
+            "set x 258 -2\nset y -2147483648\nset tri 1 65534 515\nset h {ONE}\nset kind 0 255\n\
+             set state 7FF0DEADBEEF0001 8000000000000000\npack\n{prints}"
+        ),
+        "set xbytes 00 00 01 02 FF FF FF FE\nset ybytes 80 00 00 00\n\
+         set tribytes 00 01 FF FE 02 03\nset hbytes 3F F0 00 00 00 00 00 00\n\
+         set kindbytes 00 FF\n\
+         set statebytes 7F F0 DE AD BE EF 00 01 80 00 00 00 00 00 00 00\n",
+    );
+    // Nothing is packed again by itself.
+    printed_as(
+        "set x 1\npack\nset x 2\nprint xbytes\n",
+        "set xbytes 00 00 00 01\n",
+    );
+    printed_as(
+        "set xbytes 01\nset statebytes 02\npack\nprint xbytes\nprint statebytes\n",
+        "set xbytes\nset statebytes\n",
+    );
+}
+
+/// A gauge in the middle of mesh T, with z = 1 everywhere: w is 5000, 2500, 2500.
+#[test]
+fn the_calls_on_gauges() {
+    let run = format!(
+        "{MESH_T}fill state 18 {ZERO}\nput state 3 {ONE}\nput state 4 {ONE}\nput state 5 {ONE}\n"
+    );
+    let gauge = format!("{run}pack\nfill record 1345 00\nclock 7\n");
+    for (call, printed) in [
+        (
+            "gauge locate 25 25\n",
+            format!("gauge locate 0 0 {ZERO}\nfound 0\n"),
+        ),
+        (
+            "gauge locate -1 25\n",
+            format!("gauge locate 40 0 {ZERO}\nfound 0\n"),
+        ),
+        (
+            "gauge elevation 0\n",
+            format!("gauge elevation 42 0 {ZERO}\nfound {ZERO}\n"),
+        ),
+        (
+            "gauge update\nclock 7\n",
+            format!("gauge update 0 0 {ZERO}\n"),
+        ),
+        (
+            "gauge peak 4294967295\n",
+            format!("gauge peak 42 4294967295 {ZERO}\nfound 0 {ZERO} 0\n"),
+        ),
+        (
+            "gauge add 25 25\ngauge add 0 0\ngauge add 2147483647 -2147483648\n",
+            format!(
+                "gauge add 0 0 {ZERO}\nfound 0\ngauge add 0 0 {ZERO}\nfound 1\n\
+                 gauge add 40 2 {ZERO}\nfound 0\n"
+            ),
+        ),
+        (
+            "gauge add 25 25\ngauge elevation 0\ngauge update\ngauge peak 0\n",
+            format!(
+                "gauge add 0 0 {ZERO}\nfound 0\ngauge elevation 0 0 {ZERO}\nfound {ONE}\n\
+                 gauge update 0 0 {ZERO}\ngauge peak 0 0 {ZERO}\nfound 1 {ONE} 7\n"
+            ),
+        ),
+    ] {
+        printed_as(&format!("{gauge}{call}"), &printed);
+    }
+}
+
+/// "A VALUE, an ELEVATION, a PEAK": every NaN is the one NaN there, and keeps its
+/// pattern in the record.
+#[test]
+fn a_nan_that_is_a_peak() {
+    let row = "00 00 00 00 00 00 00 00 01 FF F0 DE AD BE EF 00 01 00 00 00 09";
+    let script = format!(
+        "set record 01 {row}\n{}gauge peak 0\nkeep record 22\nprint record\n",
+        "add record 00\n".repeat(1_323)
+    );
+    printed_as(
+        &script,
+        &format!("gauge peak 0 0 {ZERO}\nfound 1 7FF8000000000000 9\nset record 01 {row}\n"),
+    );
+}
+
+/// An accepted call and a refused one print the same lines, and the clock stays.
+#[test]
+fn calls_on_gauges_that_are_lent_nothing() {
+    for (call, printed) in [
+        (
+            "gauge locate 0 0",
+            format!("gauge locate 2 0 {ZERO}\nfound 0\n"),
+        ),
+        ("gauge add 0 0", format!("gauge add 2 0 {ZERO}\nfound 0\n")),
+        (
+            "gauge elevation 0",
+            format!("gauge elevation 2 0 {ZERO}\nfound {ZERO}\n"),
+        ),
+        ("gauge update", format!("gauge update 2 0 {ZERO}\n")),
+        (
+            "gauge peak 0",
+            format!("gauge peak 43 0 {ZERO}\nfound 0 {ZERO} 0\n"),
+        ),
+    ] {
+        printed_as(&format!("{call}\n"), &printed);
+    }
+}
+
+#[test]
+fn calls_on_gauges_that_are_none() {
+    for line in [
+        "gauge",
+        "gauge ",
+        "gauge open",
+        "gauge gauge locate 1 1",
+        "gauge  update",
+        "gauge update 1",
+        "gauge update ",
+        "gauge locate",
+        "gauge locate 1",
+        "gauge locate 1 2 3",
+        "gauge locate 1  2",
+        "gauge locate 2147483648 0",
+        "gauge locate 0 -2147483649",
+        "gauge add -0 1",
+        "gauge add +1 1",
+        "gauge add 1",
+        "gauge elevation",
+        "gauge elevation -1",
+        "gauge elevation 4294967296",
+        "gauge elevation 0 0",
+        "gauge peak",
+        "gauge peak 1 1",
+        "gauge peak x",
+        "gauge Peak 0",
+        "locate 1 1",
+        "peak 0",
+        "pack 1",
+        "pack ",
+        "set bytes 00",
+        "set xbytes 0",
+        "set record 100",
+        "put statebytes 0 ff",
+    ] {
+        bad(line);
+    }
 }
 
 #[test]

@@ -1,3 +1,4 @@
 pub mod Outcomes
 pub mod PrintingProof
 pub mod GridsProof
+pub mod GaugesProof

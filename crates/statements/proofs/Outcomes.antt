@@ -7,6 +7,9 @@ use Rattle.surge.specs.Step.{StepOut, stepOut}
 use Rattle.saves.specs.Save.{SaveOut, saveOut}
 use Rattle.grids.specs.Grid.{grid, ReadOut, readOut}
 use Rattle.forcings.specs.Forcings.{Taken, taken}
+use Rattle.keeping.specs.Keeping.{AddOut, addOut, UpdateOut, updateOut}
+use Rattle.gauges.specs.Calls as G
+use Rattle.gauges.specs.Calls.{given, mark, Located, located, Measured, measured, Peaked, peaked}
 use Rattle.capi.specs.Numbers.{clock, answer, reply}
 use Rattle.statements.specs.Determined.{EachDetermined, EachCallAsksNothing}
 
@@ -54,6 +57,13 @@ each-determined = record {
   lines·put-determined = λ κs a x y v w p q.
       let e : putOut x (v .0) ≡ putOut y (w .0) = same p q in
       (ap (λ (o : Put). o .next) e, λ i. (e i .text, (tt, (tt, tt))));
+  crossing·number-at-determined = λ κs a x y v w p q. (same (p .0) (q .0), refl);
+  crossing·put-number-determined = λ κs a x y v w p q. (refl, λ i. (same p q i, (tt, (tt, (tt, tt)))));
+  crossing·pattern-32-determined = λ κs a x y v w p q. (same p q, refl);
+  crossing·int-at-determined = λ κs a x y v w p q. (same p q, refl);
+  crossing·ints-into-determined = λ κs a x y v w p q. (refl, λ i. (same p q i, (tt, tt)));
+  crossing·words-into-determined = λ κs a x y v w p q. (refl, λ i. (same p q i, (tt, tt)));
+  crossing·floats-into-determined = λ κs a x y v w p q. (refl, λ i. (same p q i, (tt, tt)));
   geometry·sides-of-determined = λ κs a x y v w p q. (same p q, refl);
   geometry·all-near-determined = λ κs a x y v w p q. (same p q, refl);
   geometry·twice-area-determined = λ κs a x y v w p q. (same p q, refl);
@@ -68,6 +78,43 @@ each-determined = record {
   nodes·open-rows-determined = λ κs a x y v w p q. (same p q, refl);
   bounds·run-rows-determined = λ κs a x y v w p q. (same p q, refl);
   bounds·forced-rows-determined = λ κs a x y v w p q. (same p q, refl);
+  location·nothing-determined = λ κs a x y v w p q. (same p q, refl);
+  location·survey-determined = λ κs a x y v w p q. (same p q, refl);
+  keeping·point-at-determined = λ κs a x y v w p q. (same p q, refl);
+  keeping·mark-at-determined = λ κs a x y v w p q. (same p q, refl);
+  keeping·points-determined = λ κs a x y v w p q. (same p q, refl);
+  keeping·number-rows-determined = λ κs a x y v w p q. (same p q, refl);
+  keeping·add-determined = λ κs a x y v w p q.
+      let e : addOut x (v .0) ≡ addOut y (w .0) = same p q in
+      (ap (λ (o : AddOut). o .given) e, λ i. (e i .left, (tt, (tt, (tt, tt)))));
+  keeping·update-determined = λ κs a x y v w p q.
+      let e : updateOut x (v .0) ≡ updateOut y (w .0) = same p q in
+      (ap (λ (o : UpdateOut). o .answer) e, λ i. (e i .left, (tt, (tt, (tt, (tt, tt))))));
+  gauges·gauge-locate-determined = λ κs a x y v w p q.
+      let e : located (G.answer x (v .1 .0) (v .1 .1 .0)) (v .0) ≡ located (G.answer y (w .1 .0) (w .1 .1 .0)) (w .0) = same p q in (
+        ap (λ (o : Located). o .answer .number) e,
+        λ i. (e i .triangle, (e i .answer .place, (e i .answer .value, (tt, (tt, (tt, (tt, (tt, (tt, (tt, (tt, (tt, (tt, (tt, (tt, tt))))))))))))))),
+      );
+  gauges·gauge-add-determined = λ κs a x y v w p q.
+      let e : addOut (given (G.answer x (v .1 .1 .0) (v .1 .1 .1 .0)) (v .1 .0)) (v .0) ≡ addOut (given (G.answer y (w .1 .1 .0) (w .1 .1 .1 .0)) (w .1 .0)) (w .0) = same p q in (
+        ap (λ (o : AddOut). o .given .answer .number) e,
+        λ i. (e i .left, (e i .given .gauge, (e i .given .answer .place, (e i .given .answer .value, (tt, (tt, (tt, (tt, (tt, (tt, (tt, (tt, (tt, (tt, (tt, (tt, tt)))))))))))))))),
+      );
+  gauges·gauge-elevation-determined = λ κs a x y v w p q.
+      let e : measured (G.answer x (v .1 .0) (v .1 .1 .0)) (v .0) ≡ measured (G.answer y (w .1 .0) (w .1 .1 .0)) (w .0) = same p q in (
+        ap (λ (o : Measured). o .answer .number) e,
+        λ i. (e i .level, (e i .answer .place, (e i .answer .value, (tt, (tt, (tt, (tt, (tt, (tt, (tt, (tt, (tt, (tt, (tt, (tt, tt))))))))))))))),
+      );
+  gauges·gauge-update-determined = λ κs a x y v w p q.
+      let e : updateOut (G.answer x (v .1 .0) (v .1 .1 .0)) (v .0) ≡ updateOut (G.answer y (w .1 .0) (w .1 .1 .0)) (w .0) = same p q in (
+        ap (λ (o : UpdateOut). o .answer .number) e,
+        λ i. (e i .left, (e i .answer .place, (e i .answer .value, (tt, (tt, (tt, (tt, (tt, (tt, (tt, (tt, (tt, (tt, (tt, tt)))))))))))))),
+      );
+  gauges·gauge-peak-determined = λ κs a x y v w p q.
+      let e : peaked (G.answer x (v .1 .1 .1 .0) (v .1 .1 .1 .1 .0)) (mark (v .0) (v .1 .0) (v .1 .1 .0)) ≡ peaked (G.answer y (w .1 .1 .1 .0) (w .1 .1 .1 .1 .0)) (mark (w .0) (w .1 .0) (w .1 .1 .0)) = same p q in (
+        ap (λ (o : Peaked). o .answer .number) e,
+        λ i. (e i .mark .seen, (e i .mark .peak, (e i .mark .step, (e i .answer .place, (e i .answer .value, (tt, (tt, tt))))))),
+      );
   passes·settle-determined = λ κs a x y v w p q.
       let e : settled x (v .0) (v .1 .0) (v .1 .1 .0) ≡ settled y (w .0) (w .1 .0) (w .1 .1 .0) = same p q in
       (ap (λ (o : Settled). o .answer) e, λ i. (e i .rooms .next, (e i .rooms .work, (e i .rooms .sums, (tt, (tt, (tt, (tt, (tt, (tt, (tt, (tt, (tt, tt)))))))))))));
@@ -145,4 +192,9 @@ each-call-asks-nothing = record {
   capi·surge-load-asks-nothing = λ _ _. tt;
   capi·surge-read-forcing-asks-nothing = λ _ _. tt;
   capi·surge-read-grid-asks-nothing = λ _ _. tt;
+  gauges·gauge-locate-asks-nothing = λ _ _. tt;
+  gauges·gauge-add-asks-nothing = λ _ _. tt;
+  gauges·gauge-elevation-asks-nothing = λ _ _. tt;
+  gauges·gauge-update-asks-nothing = λ _ _. tt;
+  gauges·gauge-peak-asks-nothing = λ _ _. tt;
 }

@@ -79,6 +79,20 @@ use Rattle.lines.proofs.Line.seal.Kinds as lines·Line·seal-kinds
 use Rattle.lines.proofs.Line.seal.Reads as lines·Line·seal-reads
 use Rattle.lines.proofs.put.Kinds as lines·put-kinds
 use Rattle.lines.proofs.put.Reads as lines·put-reads
+use Rattle.crossing.proofs.number_at.Kinds as crossing·number-at-kinds
+use Rattle.crossing.proofs.number_at.Reads as crossing·number-at-reads
+use Rattle.crossing.proofs.put_number.Kinds as crossing·put-number-kinds
+use Rattle.crossing.proofs.put_number.Reads as crossing·put-number-reads
+use Rattle.crossing.proofs.pattern_32.Kinds as crossing·pattern-32-kinds
+use Rattle.crossing.proofs.pattern_32.Reads as crossing·pattern-32-reads
+use Rattle.crossing.proofs.int_at.Kinds as crossing·int-at-kinds
+use Rattle.crossing.proofs.int_at.Reads as crossing·int-at-reads
+use Rattle.crossing.proofs.ints_into.Kinds as crossing·ints-into-kinds
+use Rattle.crossing.proofs.ints_into.Reads as crossing·ints-into-reads
+use Rattle.crossing.proofs.words_into.Kinds as crossing·words-into-kinds
+use Rattle.crossing.proofs.words_into.Reads as crossing·words-into-reads
+use Rattle.crossing.proofs.floats_into.Kinds as crossing·floats-into-kinds
+use Rattle.crossing.proofs.floats_into.Reads as crossing·floats-into-reads
 use Rattle.geometry.proofs.sides_of.Kinds as geometry·sides-of-kinds
 use Rattle.geometry.proofs.sides_of.Reads as geometry·sides-of-reads
 use Rattle.geometry.proofs.all_near.Kinds as geometry·all-near-kinds
@@ -107,6 +121,32 @@ use Rattle.bounds.proofs.run_rows.Kinds as bounds·run-rows-kinds
 use Rattle.bounds.proofs.run_rows.Reads as bounds·run-rows-reads
 use Rattle.bounds.proofs.forced_rows.Kinds as bounds·forced-rows-kinds
 use Rattle.bounds.proofs.forced_rows.Reads as bounds·forced-rows-reads
+use Rattle.location.proofs.nothing.Kinds as location·nothing-kinds
+use Rattle.location.proofs.nothing.Reads as location·nothing-reads
+use Rattle.location.proofs.survey.Kinds as location·survey-kinds
+use Rattle.location.proofs.survey.Reads as location·survey-reads
+use Rattle.keeping.proofs.point_at.Kinds as keeping·point-at-kinds
+use Rattle.keeping.proofs.point_at.Reads as keeping·point-at-reads
+use Rattle.keeping.proofs.mark_at.Kinds as keeping·mark-at-kinds
+use Rattle.keeping.proofs.mark_at.Reads as keeping·mark-at-reads
+use Rattle.keeping.proofs.points.Kinds as keeping·points-kinds
+use Rattle.keeping.proofs.points.Reads as keeping·points-reads
+use Rattle.keeping.proofs.number_rows.Kinds as keeping·number-rows-kinds
+use Rattle.keeping.proofs.number_rows.Reads as keeping·number-rows-reads
+use Rattle.keeping.proofs.add.Kinds as keeping·add-kinds
+use Rattle.keeping.proofs.add.Reads as keeping·add-reads
+use Rattle.keeping.proofs.update.Kinds as keeping·update-kinds
+use Rattle.keeping.proofs.update.Reads as keeping·update-reads
+use Rattle.gauges.proofs.gauge_locate.Kinds as gauges·gauge-locate-kinds
+use Rattle.gauges.proofs.gauge_locate.Reads as gauges·gauge-locate-reads
+use Rattle.gauges.proofs.gauge_add.Kinds as gauges·gauge-add-kinds
+use Rattle.gauges.proofs.gauge_add.Reads as gauges·gauge-add-reads
+use Rattle.gauges.proofs.gauge_elevation.Kinds as gauges·gauge-elevation-kinds
+use Rattle.gauges.proofs.gauge_elevation.Reads as gauges·gauge-elevation-reads
+use Rattle.gauges.proofs.gauge_update.Kinds as gauges·gauge-update-kinds
+use Rattle.gauges.proofs.gauge_update.Reads as gauges·gauge-update-reads
+use Rattle.gauges.proofs.gauge_peak.Kinds as gauges·gauge-peak-kinds
+use Rattle.gauges.proofs.gauge_peak.Reads as gauges·gauge-peak-reads
 use Rattle.passes.proofs.settle.Kinds as passes·settle-kinds
 use Rattle.passes.proofs.settle.Reads as passes·settle-reads
 use Rattle.surge.proofs.open.Kinds as surge·open-kinds
@@ -192,6 +232,13 @@ pub record EachDetermined : Type 0 where
   pub lines·Line·append-determined : Determined lines·Line·append-kinds.ps lines·Line·append-kinds.r lines·Line·append-reads.Post
   pub lines·Line·seal-determined : Determined lines·Line·seal-kinds.ps lines·Line·seal-kinds.r lines·Line·seal-reads.Post
   pub lines·put-determined : Determined lines·put-kinds.ps lines·put-kinds.r lines·put-reads.Post
+  pub crossing·number-at-determined : Determined crossing·number-at-kinds.ps crossing·number-at-kinds.r crossing·number-at-reads.Post
+  pub crossing·put-number-determined : Determined crossing·put-number-kinds.ps crossing·put-number-kinds.r crossing·put-number-reads.Post
+  pub crossing·pattern-32-determined : Determined crossing·pattern-32-kinds.ps crossing·pattern-32-kinds.r crossing·pattern-32-reads.Post
+  pub crossing·int-at-determined : Determined crossing·int-at-kinds.ps crossing·int-at-kinds.r crossing·int-at-reads.Post
+  pub crossing·ints-into-determined : Determined crossing·ints-into-kinds.ps crossing·ints-into-kinds.r crossing·ints-into-reads.Post
+  pub crossing·words-into-determined : Determined crossing·words-into-kinds.ps crossing·words-into-kinds.r crossing·words-into-reads.Post
+  pub crossing·floats-into-determined : Determined crossing·floats-into-kinds.ps crossing·floats-into-kinds.r crossing·floats-into-reads.Post
   pub geometry·sides-of-determined : Determined geometry·sides-of-kinds.ps geometry·sides-of-kinds.r geometry·sides-of-reads.Post
   pub geometry·all-near-determined : Determined geometry·all-near-kinds.ps geometry·all-near-kinds.r geometry·all-near-reads.Post
   pub geometry·twice-area-determined : Determined geometry·twice-area-kinds.ps geometry·twice-area-kinds.r geometry·twice-area-reads.Post
@@ -206,6 +253,19 @@ pub record EachDetermined : Type 0 where
   pub nodes·open-rows-determined : Determined nodes·open-rows-kinds.ps nodes·open-rows-kinds.r nodes·open-rows-reads.Post
   pub bounds·run-rows-determined : Determined bounds·run-rows-kinds.ps bounds·run-rows-kinds.r bounds·run-rows-reads.Post
   pub bounds·forced-rows-determined : Determined bounds·forced-rows-kinds.ps bounds·forced-rows-kinds.r bounds·forced-rows-reads.Post
+  pub location·nothing-determined : Determined location·nothing-kinds.ps location·nothing-kinds.r location·nothing-reads.Post
+  pub location·survey-determined : Determined location·survey-kinds.ps location·survey-kinds.r location·survey-reads.Post
+  pub keeping·point-at-determined : Determined keeping·point-at-kinds.ps keeping·point-at-kinds.r keeping·point-at-reads.Post
+  pub keeping·mark-at-determined : Determined keeping·mark-at-kinds.ps keeping·mark-at-kinds.r keeping·mark-at-reads.Post
+  pub keeping·points-determined : Determined keeping·points-kinds.ps keeping·points-kinds.r keeping·points-reads.Post
+  pub keeping·number-rows-determined : Determined keeping·number-rows-kinds.ps keeping·number-rows-kinds.r keeping·number-rows-reads.Post
+  pub keeping·add-determined : Determined keeping·add-kinds.ps keeping·add-kinds.r keeping·add-reads.Post
+  pub keeping·update-determined : Determined keeping·update-kinds.ps keeping·update-kinds.r keeping·update-reads.Post
+  pub gauges·gauge-locate-determined : Determined gauges·gauge-locate-kinds.ps gauges·gauge-locate-kinds.r gauges·gauge-locate-reads.Post
+  pub gauges·gauge-add-determined : Determined gauges·gauge-add-kinds.ps gauges·gauge-add-kinds.r gauges·gauge-add-reads.Post
+  pub gauges·gauge-elevation-determined : Determined gauges·gauge-elevation-kinds.ps gauges·gauge-elevation-kinds.r gauges·gauge-elevation-reads.Post
+  pub gauges·gauge-update-determined : Determined gauges·gauge-update-kinds.ps gauges·gauge-update-kinds.r gauges·gauge-update-reads.Post
+  pub gauges·gauge-peak-determined : Determined gauges·gauge-peak-kinds.ps gauges·gauge-peak-kinds.r gauges·gauge-peak-reads.Post
   pub passes·settle-determined : Determined passes·settle-kinds.ps passes·settle-kinds.r passes·settle-reads.Post
   pub surge·open-determined : Determined surge·open-kinds.ps surge·open-kinds.r surge·open-reads.Post
   pub surge·step-determined : Determined surge·step-kinds.ps surge·step-kinds.r surge·step-reads.Post
@@ -243,3 +303,8 @@ pub record EachCallAsksNothing : Type 0 where
   pub capi·surge-load-asks-nothing : AsksNothing capi·surge-load-kinds.ps capi·surge-load-reads.Asked
   pub capi·surge-read-forcing-asks-nothing : AsksNothing capi·surge-read-forcing-kinds.ps capi·surge-read-forcing-reads.Asked
   pub capi·surge-read-grid-asks-nothing : AsksNothing capi·surge-read-grid-kinds.ps capi·surge-read-grid-reads.Asked
+  pub gauges·gauge-locate-asks-nothing : AsksNothing gauges·gauge-locate-kinds.ps gauges·gauge-locate-reads.Asked
+  pub gauges·gauge-add-asks-nothing : AsksNothing gauges·gauge-add-kinds.ps gauges·gauge-add-reads.Asked
+  pub gauges·gauge-elevation-asks-nothing : AsksNothing gauges·gauge-elevation-kinds.ps gauges·gauge-elevation-reads.Asked
+  pub gauges·gauge-update-asks-nothing : AsksNothing gauges·gauge-update-kinds.ps gauges·gauge-update-reads.Asked
+  pub gauges·gauge-peak-asks-nothing : AsksNothing gauges·gauge-peak-kinds.ps gauges·gauge-peak-reads.Asked

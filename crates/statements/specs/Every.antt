@@ -14,6 +14,8 @@ use Rattle.worked.specs.Examples.{ExamplesHold}
 use Rattle.statements.specs.Printing.{PrintingHolds}
 use Rattle.statements.specs.Grids.{GridDemands, RunsOnMeshesRead}
 use Rattle.gridtext.specs.Written.{WrittenIsRead}
+use Rattle.statements.specs.Gauges.{GaugeDemands}
+use Rattle.boards.specs.Gauges.{ExactlyForty, NeverBeyond30, RecordKept, PeaksAtGauges, OwnRecordsPass}
 
 pub record EveryStatement : Type 0 where
   pub determined : EachDetermined
@@ -42,3 +44,9 @@ pub record EveryStatement : Type 0 where
   pub grid-demands : GridDemands
   pub runs-on-meshes-read : RunsOnMeshesRead
   pub written-is-read : WrittenIsRead
+  pub gauge-demands : GaugeDemands
+  pub exactly-forty : ExactlyForty
+  pub never-beyond-30 : NeverBeyond30
+  pub record-kept : RecordKept
+  pub peaks-at-gauges : PeaksAtGauges
+  pub own-records-pass : OwnRecordsPass

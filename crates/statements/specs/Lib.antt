@@ -1,4 +1,5 @@
 pub mod Determined
 pub mod Printing
 pub mod Grids
+pub mod Gauges
 pub mod Every

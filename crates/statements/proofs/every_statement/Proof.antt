@@ -17,6 +17,10 @@ use Rattle.worked.proofs.ExamplesProof.{examples-hold}
 use Rattle.statements.proofs.PrintingProof.{printing-holds}
 use Rattle.statements.proofs.GridsProof.{grid-demands, runs-on-meshes-read}
 use Rattle.gridtext.proofs.WrittenLaws.{written-is-read}
+use Rattle.statements.proofs.GaugesProof.{gauge-demands}
+use Rattle.boards.proofs.FortyProof.{exactly-forty}
+use Rattle.boards.proofs.LevelProof.{never-beyond-30}
+use Rattle.boards.proofs.GaugesProof.{record-kept, peaks-at-gauges, own-records-pass}
 
 every-statement : EveryStatement
 every-statement = record {
@@ -46,6 +50,12 @@ every-statement = record {
   grid-demands = grid-demands;
   runs-on-meshes-read = runs-on-meshes-read;
   written-is-read = written-is-read;
+  gauge-demands = gauge-demands;
+  exactly-forty = exactly-forty;
+  never-beyond-30 = never-beyond-30;
+  record-kept = record-kept;
+  peaks-at-gauges = peaks-at-gauges;
+  own-records-pass = own-records-pass;
 }
 
 -- src/lib.rt: what the function ensures

@@ -1,0 +1,4 @@
+pub mod MarkLaws
+pub mod FortyProof
+pub mod LevelProof
+pub mod GaugesProof
