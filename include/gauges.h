@@ -7,7 +7,8 @@
  *
  * Memory. Everything that a call reads or writes is the caller's, lent for the time of the call. A call keeps no pointer,
  * allocates nothing, and holds nothing from one call to the next: the peaks are in the record that the caller holds, and may keep
- * in a file. There is no global state.
+ * in a file. There is no global state. A call that is lent a mesh decodes it on the stack, into arrays for the largest mesh there
+ * is: it takes some 320 KB of stack, whatever the mesh. gauge_peak takes next to none.
  *
  * Slices. Every slice is bytes, two arguments: a pointer to its first byte and the number of its bytes. A number in it stands with
  * its most significant byte first (big-endian), a float as its binary64 pattern, on every machine. Any number of bytes may be
