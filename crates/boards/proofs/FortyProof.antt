@@ -17,8 +17,9 @@ use Rattle.location.proofs.LowestLaws.{lowest-all, lowest-at, lowest-first}
 use Rattle.keeping.specs.Record.{countIn, pointIn}
 use Rattle.keeping.specs.Keeping.{addAnswer}
 use Rattle.keeping.specs.Keeping as Keeping
-use Rattle.gauges.specs.Lent.{Lent, meshIn}
-use Rattle.gauges.specs.Calls.{isOn, triangleAt, row40, locateAnswer, locateOf, addOf, elevationAnswer, elevationOf, allOn, updateOf}
+use Rattle.looking.specs.Lent.{Lent, meshIn}
+use Rattle.looking.specs.Looking.{isOn, triangleAt}
+use Rattle.gauges.specs.Calls.{row40, locateAnswer, locateOf, addOf, elevationAnswer, elevationOf, allOn, updateOf}
 use Rattle.boards.specs.Gauges.{holds, Outside, Lowest, Forty, FirstOutside, FortyFirst, ExactlyForty}
 
 -- ---- one point

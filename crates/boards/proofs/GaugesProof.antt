@@ -18,8 +18,9 @@ use Rattle.keeping.specs.Keeping.{AddOut, addAnswer, UpdateOut}
 use Rattle.keeping.specs.Keeping as Keeping
 use Rattle.keeping.proofs.RecordLaws.{record-long, count-most, add-refused, update-refused}
 use Rattle.boards.proofs.MarkLaws.{row-point, row-mark, added-count, added-mark, added-point, added-other, added-fine, notedMark, mark, all-count, all-points, all-marks, all-fine}
-use Rattle.gauges.specs.Lent.{lentRows}
-use Rattle.gauges.specs.Calls.{isOn, levelAt, row40, addOf, allOn, updateOf}
+use Rattle.looking.specs.Lent.{lentRows}
+use Rattle.looking.specs.Looking.{isOn, levelAt}
+use Rattle.gauges.specs.Calls.{row40, addOf, allOn, updateOf}
 use Rattle.peaks.specs.Peaks as Peaks
 use Rattle.peaks.specs.Peaks.{Reading, marked, Added, Updated, Laws}
 use Rattle.peaks.proofs.PeakLaws.{peaks, held-fine}

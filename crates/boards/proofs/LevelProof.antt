@@ -15,8 +15,8 @@ use Rattle.location.specs.Location.{elevation, levelOf}
 use Rattle.location.specs.Survey.{present}
 use Rattle.location.proofs.InsideLaws.{accepted-sound, accepted-inside}
 use Rattle.peaks.proofs.LevelLaws.{level-bounded}
-use Rattle.gauges.specs.Lent.{Lent, meshIn, stateIn, row1Bytes, lentRows}
-use Rattle.gauges.specs.Calls.{isOn, triangleAt, levelAt}
+use Rattle.looking.specs.Lent.{Lent, meshIn, stateIn, row1Bytes, lentRows}
+use Rattle.looking.specs.Looking.{isOn, triangleAt, levelAt}
 use Rattle.boards.specs.Gauges.{NeverBeyond30}
 use Rattle.boards.proofs.FortyProof.{on-lowest, held-on}
 

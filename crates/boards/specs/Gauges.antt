@@ -15,8 +15,9 @@ use Rattle.location.specs.Location.{contains}
 use Rattle.keeping.specs.declared.Mark as Keeping
 use Rattle.keeping.specs.Record.{fresh, countIn, pointIn, markIn, row43, row41}
 use Rattle.keeping.specs.Keeping.{numberRows}
-use Rattle.gauges.specs.Lent.{Lent, meshIn, lentRows}
-use Rattle.gauges.specs.Calls.{triangleAt, levelAt, locateOf, addOf, elevationOf, updateOf}
+use Rattle.looking.specs.Lent.{Lent, meshIn, lentRows}
+use Rattle.looking.specs.Looking.{triangleAt, levelAt}
+use Rattle.gauges.specs.Calls.{locateOf, addOf, elevationOf, updateOf}
 use Rattle.peaks.specs.Peaks.{Mark, Board, Call, kept, Peaks}
 
 -- ---- "then 40 exactly when no triangle contains the point"

@@ -1,1 +1,1 @@
-pub mod LookLaws
+pub mod CallLaws

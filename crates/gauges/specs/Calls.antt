@@ -1,24 +1,27 @@
 -- Document 02, #106: the calls. "Refusals, gauge number from 0 as place: after rows 1 to 10, 43 …, then 41 …, then 42 …, then 40 exactly when no triangle
 -- contains the point; each leaves the peak record as found." What a call finds comes back beside its answer; a refused call finds 0 and +0.
 use Prim.Native.Nat.{ℕ}
-use mathlib.Core.Bool.{Bool}
+use mathlib.Core.Bool.{false}
 use mathlib.Core.List.{List}
 use lib.IntN.{ℤ}
 use lib.Ieee.{Float}
 use Rattle.rows.specs.declared.Answer.{Answer}
 use Rattle.rows.specs.Numbers.{plus0}
 use Rattle.rows.specs.Scan.{row, _then_, scan}
+use Rattle.quantities.specs.declared.Parameters.{Parameters}
 use Rattle.location.specs.declared.seeking.Point.{Point}
-use Rattle.location.specs.Location.{isInside}
-use Rattle.location.specs.Survey.{triangleIn, levelIn}
 use Rattle.keeping.specs.declared.Mark.{Mark}
 use Rattle.keeping.specs.declared.Given.{Given}
 use Rattle.keeping.specs.Record.{countIn, pointIn, markIn}
 use Rattle.keeping.specs.Keeping as Keeping
 use Rattle.keeping.specs.Keeping.{ifAccepted, numberRows, AddOut, UpdateOut}
-use Rattle.gauges.specs.Lent.{Lent, meshIn, stateIn, lentRows}
+use Rattle.looking.specs.Lent.{Lent, lentRows}
+use Rattle.looking.specs.Looking.{isOn, triangleAt, levelAt}
 
--- the records, from the numbers that a C program passes and gets back one by one
+-- the records, from the numbers that a C program passes and gets back one by one; the setting of advection does not cross: no row speaks of it
+abbrev pub parameters : Float → Float → Float → Float → Parameters
+parameters dt tau k f = record { dt = dt; tau = tau; k = k; f = f; advection = false }
+
 abbrev pub answer : ℕ → ℕ → Float → Answer
 answer number place value = record { number = number; place = place; value = value }
 
@@ -31,20 +34,9 @@ given a gauge = record { answer = a; gauge = gauge }
 abbrev pub mark : ℕ → Float → ℕ → Mark
 mark seen peak step = record { seen = seen; peak = peak; step = step }
 
-module _ (b : Lent) (q : Point) where
-  -- a triangle contains the point; the lowest-numbered that does; the elevation there, in the state that is lent
-  abbrev pub isOn : Bool
-  isOn = isInside (meshIn b .x) (meshIn b .y) (meshIn b .tri) q
-
-  abbrev pub triangleAt : ℕ
-  triangleAt = triangleIn (meshIn b) (stateIn b) q
-
-  abbrev pub levelAt : Float
-  levelAt = levelIn (meshIn b) (stateIn b) q
-
-  -- "then 40 exactly when no triangle contains the point"
-  unfoldable pub row40 : ℕ → Answer
-  row40 place = row isOn 40 place
+-- "then 40 exactly when no triangle contains the point"
+unfoldable pub row40 : Lent → Point → ℕ → Answer
+row40 b q place = row (isOn b q) 40 place
 
 -- ---- gauge_locate
 pub record Located : Type 0 where

@@ -1,15 +1,17 @@
 // The gauges of the harbour masters' board, for C programs to link: include/gauges.h declares the calls. Every slice that crosses is bytes, big-endian.
 // What comes back goes through a pointer each, and the refusal number is the result.
-pub(crate) mod looking;
-
 use keeping::Mark;
 use location::seeking::Point;
 use quantities::Parameters;
 use rows::Answer;
 ghost use mathlib.Core.Path.{_≡_};
-ghost use Rattle.gauges.specs.Lent.{lent, parameters};
+ghost use Prim.Native.Nat.{_≤_};
+ghost use lib.Dec.{ltb};
+ghost use lib.ListN.{getD};
+ghost use Rattle.rows.specs.Scan.{row, scan};
 ghost use Rattle.keeping.specs.Keeping.{addOut, updateOut};
-ghost use Rattle.gauges.specs.Calls.{answer, point, given, located, locateOf, addOf, measured, elevationOf, updateOf, mark, peaked, peakOf};
+ghost use Rattle.looking.specs.Lent.{lent};
+ghost use Rattle.gauges.specs.Calls.{parameters, answer, point, given, located, locateOf, addOf, measured, elevationOf, updateOf, mark, peaked, peakOf};
 
 // The setting of advection does not cross: no row speaks of it.
 fn parameters(dt: f64, tau: f64, k: f64, f: f64) -> Parameters
@@ -31,6 +33,19 @@ fn hand_back(place: &mut usize, value: &mut f64, a: Answer) -> u32
     *place = a.place;
     *value = a.value;
     a.number
+}
+
+// Row 40 of the first `count` points: the first that no triangle of e contains.
+fn all_on(triangle: &[usize; 64], e: usize, count: usize) -> Answer
+    requires { ⌜ count ≤ 64 ⌝ }
+    ensures { λ r. ⌜ r ≡ scan (λ g. row (ltb (getD (now (triangle .entry)) g 0) e) 40 g) count ⌝ }
+{
+    for g in 0..count {
+        if e <= triangle[g] {
+            return rows::refuse(40, g);
+        }
+    }
+    rows::accept()
 }
 
 // Finds the lowest-numbered triangle that contains a point.
@@ -147,7 +162,7 @@ pub extern "C" fn gauge_update(
     let seen = looking::look(ps, state, x, y, tri, h, kind, parameters(dt, tau, k, f));
     let triangle = seen.triangle;
     let level = seen.level;
-    let inside = looking::all_on(&triangle, tri.len() / 2 / 3, count);
+    let inside = all_on(&triangle, tri.len() / 2 / 3, count);
     let a = keeping::update(kept, seen.answer, inside, &level, step);
     hand_back(place, value, a)
 }

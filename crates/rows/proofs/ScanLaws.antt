@@ -50,6 +50,14 @@ then-first a b h = go (a .number) refl
 pub then-rest : (a b : Answer) → (a then b) .number ≡ 0 → b .number ≡ 0
 then-rest a b h = sym (ap (λ (x : Answer). x .number) (then-next a b (then-first a b h))) ∙ h
 
+-- what follows an answer counts only where that accepts
+pub then-same : (a b c : Answer) → (a .number ≡ 0 → b ≡ c) → (a then b) ≡ (a then c)
+then-same a b c h = go (a .number) refl
+  where
+    go : (n : ℕ) → a .number ≡ n → (a then b) ≡ (a then c)
+    go zero e = ap (λ (r : Answer). a then r) (h e)
+    go (suc n) e = let no : a .number ≡ 0 → ⊥ = λ z. absurd (omega (arith, e, z)) in then-stop a b no ∙ sym (then-stop a c no)
+
 -- ---- the first place
 pub scan-none : (f : ℕ → Answer) (n : ℕ) → ((k : ℕ) → k < n → f k .number ≡ 0) → scan f n ≡ accepted
 unfolding scan

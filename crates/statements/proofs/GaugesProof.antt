@@ -5,7 +5,7 @@ use mathlib.Core.List.{List}
 use borrow.Author.Tests.{eq-eqb, ne-eqb}
 use Rattle.location.specs.declared.seeking.Point.{Point}
 use Rattle.keeping.specs.Keeping as Keeping
-use Rattle.gauges.specs.Lent.{Lent}
+use Rattle.looking.specs.Lent.{Lent}
 use Rattle.gauges.specs.Calls.{locateOf, addOf, elevationOf, updateOf, peakOf}
 use Rattle.statements.specs.Gauges.{LocateSays, AddSays, MeasureSays, UpdateSays, PeakSays, GaugeDemands}
 

@@ -125,6 +125,10 @@ use Rattle.location.proofs.nothing.Kinds as location·nothing-kinds
 use Rattle.location.proofs.nothing.Reads as location·nothing-reads
 use Rattle.location.proofs.survey.Kinds as location·survey-kinds
 use Rattle.location.proofs.survey.Reads as location·survey-reads
+use Rattle.looking.proofs.look.Kinds as looking·look-kinds
+use Rattle.looking.proofs.look.Reads as looking·look-reads
+use Rattle.looking.proofs.look_at.Kinds as looking·look-at-kinds
+use Rattle.looking.proofs.look_at.Reads as looking·look-at-reads
 use Rattle.keeping.proofs.point_at.Kinds as keeping·point-at-kinds
 use Rattle.keeping.proofs.point_at.Reads as keeping·point-at-reads
 use Rattle.keeping.proofs.mark_at.Kinds as keeping·mark-at-kinds
@@ -255,6 +259,8 @@ pub record EachDetermined : Type 0 where
   pub bounds·forced-rows-determined : Determined bounds·forced-rows-kinds.ps bounds·forced-rows-kinds.r bounds·forced-rows-reads.Post
   pub location·nothing-determined : Determined location·nothing-kinds.ps location·nothing-kinds.r location·nothing-reads.Post
   pub location·survey-determined : Determined location·survey-kinds.ps location·survey-kinds.r location·survey-reads.Post
+  pub looking·look-determined : Determined looking·look-kinds.ps looking·look-kinds.r looking·look-reads.Post
+  pub looking·look-at-determined : Determined looking·look-at-kinds.ps looking·look-at-kinds.r looking·look-at-reads.Post
   pub keeping·point-at-determined : Determined keeping·point-at-kinds.ps keeping·point-at-kinds.r keeping·point-at-reads.Post
   pub keeping·mark-at-determined : Determined keeping·mark-at-kinds.ps keeping·mark-at-kinds.r keeping·mark-at-reads.Post
   pub keeping·points-determined : Determined keeping·points-kinds.ps keeping·points-kinds.r keeping·points-reads.Post

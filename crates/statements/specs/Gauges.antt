@@ -7,8 +7,9 @@ use Rattle.rows.specs.Scan.{_then_}
 use Rattle.location.specs.declared.seeking.Point.{Point}
 use Rattle.keeping.specs.Record.{countIn, pointIn, markIn, added, allNoted, row43}
 use Rattle.keeping.specs.Keeping.{numberRows, AddOut, addOut, addAnswer, UpdateOut, updateOut}
-use Rattle.gauges.specs.Lent.{Lent, lent, parameters, lentRows}
-use Rattle.gauges.specs.Calls.{answer, point, given, mark, isOn, triangleAt, levelAt, Located, located, locateAnswer, locateOf, addOf, Measured, measured, elevationAnswer, elevationOf, allOn, updateOf, Peaked, peaked, peakOf}
+use Rattle.looking.specs.Lent.{Lent, lent, lentRows}
+use Rattle.looking.specs.Looking.{isOn, triangleAt, levelAt}
+use Rattle.gauges.specs.Calls.{parameters, answer, point, given, mark, Located, located, locateAnswer, locateOf, addOf, Measured, measured, elevationAnswer, elevationOf, allOn, updateOf, Peaked, peaked, peakOf}
 use Rattle.demands.specs.Contracts.{Keeps}
 use Rattle.demands.specs.Demand1.{Accepts, Refuses}
 use Rattle.gauges.proofs.gauge_locate.Kinds as gauge-locate-kinds

@@ -12,10 +12,10 @@ use Rattle.keeping.specs.Record.{countIn, row43, row41}
 use Rattle.keeping.specs.Keeping as Keeping
 use Rattle.keeping.specs.Keeping.{addOut, addAnswer}
 use Rattle.keeping.proofs.RecordLaws.{add-same}
-use Rattle.gauges.specs.Lent.{Lent, lent, parameters, lentRows}
-use Rattle.gauges.specs.Calls.{point, given, isOn, addOf}
-use Rattle.gauges.specs.Private.{sightOf}
-use Rattle.gauges.proofs.LookLaws.{sight-then}
+use Rattle.looking.specs.Lent.{Lent, lent, lentRows}
+use Rattle.looking.specs.Looking.{isOn, sightOf}
+use Rattle.looking.proofs.LookLaws.{sight-then}
+use Rattle.gauges.specs.Calls.{parameters, point, given, addOf}
 use Rattle.gauges.proofs.gauge_add.Statement.{statement}
 use Rattle.gauges.proofs.gauge_add.Tie as tie
 

@@ -8,11 +8,12 @@ use Rattle.quantities.specs.declared.Parameters.{Parameters}
 use Rattle.location.specs.declared.seeking.Point.{Point}
 use Rattle.keeping.specs.Record.{pointIn}
 use Rattle.keeping.specs.Keeping.{numberRows}
-use Rattle.gauges.specs.declared.looking.Sight.{Sight}
-use Rattle.gauges.specs.Lent.{Lent, lent, parameters}
-use Rattle.gauges.specs.Calls.{row40, measured, elevationAnswer, elevationOf}
-use Rattle.gauges.specs.Private.{sightOf}
-use Rattle.gauges.proofs.LookLaws.{sight-then, sight-found, elevation-refused, elevation-accepted}
+use Rattle.looking.specs.declared.Sight.{Sight}
+use Rattle.looking.specs.Lent.{Lent, lent}
+use Rattle.looking.specs.Looking.{sightOf}
+use Rattle.looking.proofs.LookLaws.{sight-then, sight-found}
+use Rattle.gauges.specs.Calls.{parameters, row40, measured, elevationAnswer, elevationOf}
+use Rattle.gauges.proofs.CallLaws.{elevation-refused, elevation-accepted}
 use Rattle.gauges.proofs.gauge_elevation.Statement.{statement}
 use Rattle.gauges.proofs.gauge_elevation.Tie as tie
 

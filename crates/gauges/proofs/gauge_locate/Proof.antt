@@ -8,11 +8,12 @@ use Rattle.rows.specs.declared.Answer.{Answer}
 use Rattle.rows.proofs.ScanLaws.{same-number, then-first}
 use Rattle.quantities.specs.declared.Parameters.{Parameters}
 use Rattle.location.specs.declared.seeking.Point.{Point}
-use Rattle.gauges.specs.declared.looking.Sight.{Sight}
-use Rattle.gauges.specs.Lent.{Lent, lent, parameters}
-use Rattle.gauges.specs.Calls.{point, row40, located, locateAnswer, locateOf}
-use Rattle.gauges.specs.Private.{sightOf}
-use Rattle.gauges.proofs.LookLaws.{sight-then, sight-found, locate-refused, locate-accepted}
+use Rattle.looking.specs.declared.Sight.{Sight}
+use Rattle.looking.specs.Lent.{Lent, lent}
+use Rattle.looking.specs.Looking.{sightOf}
+use Rattle.looking.proofs.LookLaws.{sight-then, sight-found}
+use Rattle.gauges.specs.Calls.{parameters, point, row40, located, locateAnswer, locateOf}
+use Rattle.gauges.proofs.CallLaws.{locate-refused, locate-accepted}
 use Rattle.gauges.proofs.gauge_locate.Statement.{statement}
 use Rattle.gauges.proofs.gauge_locate.Tie as tie
 

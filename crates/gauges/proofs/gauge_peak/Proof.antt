@@ -4,7 +4,7 @@ use lib.Ieee.{ofBits}
 use Rattle.rows.specs.declared.Answer.{Answer}
 use Rattle.keeping.specs.declared.Mark.{Mark}
 use Rattle.gauges.specs.Calls.{peaked, mark}
-use Rattle.gauges.proofs.LookLaws.{peak-refused, peak-accepted}
+use Rattle.gauges.proofs.CallLaws.{peak-refused, peak-accepted}
 use Rattle.gauges.proofs.gauge_peak.Statement.{statement}
 use Rattle.gauges.proofs.gauge_peak.Tie as tie
 

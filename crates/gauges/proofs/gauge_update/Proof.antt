@@ -4,10 +4,11 @@ use borrow.Author.Needs.{needs}
 use Prim.Native.Nat.{_≤_}
 use Rattle.rows.specs.declared.Answer.{Answer}
 use Rattle.quantities.specs.declared.Parameters.{Parameters}
-use Rattle.location.specs.Survey.{surveyOf}
 use Rattle.keeping.specs.Keeping.{updateOut}
-use Rattle.gauges.specs.Lent.{Lent, lent, parameters, meshIn, stateIn, row1Bytes}
-use Rattle.gauges.proofs.LookLaws.{few-points, update-seen}
+use Rattle.looking.specs.Lent.{Lent, lent}
+use Rattle.looking.specs.Looking.{lookOf}
+use Rattle.gauges.specs.Calls.{parameters}
+use Rattle.gauges.proofs.CallLaws.{few-points, update-seen}
 use Rattle.gauges.proofs.gauge_update.Statement.{statement}
 use Rattle.gauges.proofs.gauge_update.Tie as tie
 
@@ -21,10 +22,8 @@ module _ (c : tie.After-look) where
   abbrev b : Lent
   b = let a = start .args in with (parameters (a .dt) (a .tau) (a .k) (a .f))
 
-  seen : c .look .result ≡ surveyOf (row1Bytes b) (meshIn b) (b .p) (stateIn b) (c .before .before .points .result)
-  seen =
-      c .look .ensures
-      ∙ ap (λ (p : Parameters). surveyOf (row1Bytes (with p)) (meshIn (with p)) p (stateIn (with p)) (c .before .before .points .result)) (c .before .parameters .ensures)
+  seen : c .look .result ≡ lookOf b (c .before .before .points .result)
+  seen = c .look .ensures ∙ ap (λ (p : Parameters). lookOf (with p) (c .before .before .points .result)) (c .before .parameters .ensures)
 
 returns : tie.Need-returns
 returns c =

@@ -10,11 +10,11 @@ use Rattle.crossing.specs.Crossing.{signed}
 use Prim.Native.Nat.{_*_}
 use Rattle.mesh.specs.Rows.{sizeRows}
 use Rattle.location.specs.Survey.{surveyOf}
-use Rattle.location.proofs.SightLaws.{survey-refused}
-use Rattle.gauges.specs.Lent.{Lent, lent, meshIn, stateIn}
-use Rattle.gauges.proofs.LookLaws.{elements-length, sizesIn, sizes-stop, sizes-fit}
-use Rattle.gauges.proofs.looking.look.Statement.{statement}
-use Rattle.gauges.proofs.looking.look.Tie as tie
+use Rattle.looking.specs.Lent.{Lent, lent, meshIn, stateIn}
+use Rattle.looking.specs.Looking.{lookOf}
+use Rattle.looking.proofs.LookLaws.{elements-length, sizesIn, sizes-stop, sizes-fit}
+use Rattle.looking.proofs.look.Statement.{statement}
+use Rattle.looking.proofs.look.Tie as tie
 
 abbrev start : tie.After-size-rows → tie.Start
 start c = c .before .before .before .before .before .before .before .before .before .before .before
@@ -38,12 +38,13 @@ returns : tie.Need-returns
 returns c =
     let t = c .before in
     let k = t .before .before in
-    c .nothing .ensures ∙ survey-refused _ _ _ _ _ (sizes-stop (its (start k)) (answered k) (t .if1 .taken)) (t .if1 .taken)
+    c .nothing .ensures ∙ sizes-stop (its (start k)) _ (answered k) (t .if1 .taken)
 
 at-full-size-requires : tie.Need-at-full-size-requires
 at-full-size-requires c κs = let k = c .before .before in sizes-fit (its (start k)) (same-number (answered k) (c .if1 .left))
 
 returns-2 : tie.Need-returns-2
+unfolding lookOf
 returns-2 c =
     let k = c .before .before .before in
     let b = its (start k) in

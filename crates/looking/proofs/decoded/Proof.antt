@@ -4,9 +4,9 @@ use lib.Ieee.{binary64, ofBits}
 use Rattle.mesh.specs.Lent.{mesh}
 use Rattle.crossing.specs.Crossing.{signed}
 use Rattle.location.specs.Survey.{surveyOf}
-use Rattle.gauges.proofs.LookLaws.{part-whole}
-use Rattle.gauges.proofs.looking.decoded.Statement.{statement}
-use Rattle.gauges.proofs.looking.decoded.Tie as tie
+use Rattle.looking.proofs.LookLaws.{part-whole}
+use Rattle.looking.proofs.decoded.Statement.{statement}
+use Rattle.looking.proofs.decoded.Tie as tie
 
 -- the places at which each slice has been decoded, from the last
 abbrev values : tie.After-slice-known6 → tie.After-floats-into2

@@ -1,6 +1,6 @@
-use Rattle.gauges.specs.Lent.{row1Bytes}
-use Rattle.gauges.proofs.looking.whole_row.Statement.{statement}
-use Rattle.gauges.proofs.looking.whole_row.Tie as tie
+use Rattle.looking.specs.Lent.{row1Bytes}
+use Rattle.looking.proofs.whole_row.Statement.{statement}
+use Rattle.looking.proofs.whole_row.Tie as tie
 
 returns : tie.Need-returns
 unfolding row1Bytes

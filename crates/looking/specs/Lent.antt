@@ -1,6 +1,6 @@
 -- Document 02, #106: "on numbers and byte slices only … State slices cross as big-endian byte patterns." What a call is lent, as bytes, and rows 1 to 10.
 use Prim.Native.Nat.{ℕ, _%_}
-use mathlib.Core.Bool.{Bool, false, _&&_}
+use mathlib.Core.Bool.{_&&_}
 use mathlib.Core.List.{List}
 use lib.Dec.{eqb}
 use lib.ListN.{length}
@@ -24,10 +24,6 @@ pub record Lent : Type 0 where
 
 abbrev pub lent : List ℕ → List ℕ → List ℕ → List ℕ → List ℕ → List ℕ → Parameters → Lent
 lent state x y tri h kind p = record { state = state; x = x; y = y; tri = tri; h = h; kind = kind; p = p }
-
--- the setting of advection does not cross: no row speaks of it
-abbrev pub parameters : Float → Float → Float → Float → Parameters
-parameters dt tau k f = record { dt = dt; tau = tau; k = k; f = f; advection = false }
 
 module _ (b : Lent) where
   -- the numbers that they are

@@ -7,8 +7,8 @@ use borrow.Author.Tests.{lt-ltb, le-ltb}
 use lib.Dec.{ltb}
 use lib.ListN.{getD}
 use Rattle.rows.proofs.ScanLaws.{row-hit, row-none}
-use Rattle.gauges.proofs.looking.all_on.Statement.{statement}
-use Rattle.gauges.proofs.looking.all_on.Tie as tie
+use Rattle.gauges.proofs.all_on.Statement.{statement}
+use Rattle.gauges.proofs.all_on.Tie as tie
 
 abbrev Inv-loop : tie.InvT-loop
 Inv-loop triangle e count g₀ g = (g ≤ count) × ((k : ℕ) → k < g → ltb (getD triangle k 0) e ≡ true)

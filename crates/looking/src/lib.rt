@@ -6,13 +6,11 @@ use location::seeking::Point;
 use quantities::Parameters;
 use rows::Answer;
 ghost use mathlib.Core.Path.{_≡_};
-ghost use Prim.Native.Nat.{_≤_};
-ghost use lib.Dec.{ltb};
-ghost use lib.ListN.{length, getD};
-ghost use Rattle.rows.specs.Scan.{row, scan};
+ghost use lib.ListN.{length};
 ghost use Rattle.location.specs.Survey.{surveyOf};
-ghost use Rattle.gauges.specs.Lent.{Lent, lent, meshIn, stateIn, row1Bytes};
-ghost use Rattle.gauges.specs.Private.{Sizes, sightOf};
+ghost use Rattle.looking.specs.Lent.{Lent, lent, meshIn, stateIn, row1Bytes};
+ghost use Rattle.looking.specs.Looking.{lookOf, sightOf};
+ghost use Rattle.looking.specs.Private.{Sizes};
 
 // What is seen at one point: the rows' answer, and where they accept the triangle, whether there is one, and the elevation.
 pub struct Sight {
@@ -124,7 +122,7 @@ fn at_full_size(
 }
 
 // Rows 1 to 10, and where they accept what is seen at the points. Rows 1 and 2 are asked of the lengths before anything is decoded.
-pub(crate) fn look(
+pub fn look(
     ps: Points,
     state: &[u8],
     x: &[u8],
@@ -134,9 +132,7 @@ pub(crate) fn look(
     kind: &[u8],
     p: Parameters,
 ) -> Sightings
-    ghost { Lent }
-    requires { λ b. ⌜ lent (now state) (now x) (now y) (now tri) (now h) (now kind) p ≡ b ⌝ }
-    ensures { λ b r. ⌜ r ≡ surveyOf (row1Bytes b) (meshIn b) (b .p) (stateIn b) ps ⌝ }
+    ensures { λ r. ⌜ r ≡ lookOf (lent (now (state .entry)) (now (x .entry)) (now (y .entry)) (now (tri .entry)) (now (h .entry)) (now (kind .entry)) p) ps ⌝ }
 {
     let n = x.len() / 4;
     let whole = whole_row(state, x, y, tri, h, kind, p);
@@ -160,7 +156,7 @@ pub(crate) fn look(
 }
 
 // What is seen at one point.
-pub(crate) fn look_at(
+pub fn look_at(
     q: Point,
     state: &[u8],
     x: &[u8],
@@ -170,9 +166,7 @@ pub(crate) fn look_at(
     kind: &[u8],
     p: Parameters,
 ) -> Sight
-    ghost { Lent }
-    requires { λ b. ⌜ lent (now state) (now x) (now y) (now tri) (now h) (now kind) p ≡ b ⌝ }
-    ensures { λ b r. ⌜ r ≡ sightOf b q ⌝ }
+    ensures { λ r. ⌜ r ≡ sightOf (lent (now (state .entry)) (now (x .entry)) (now (y .entry)) (now (tri .entry)) (now (h .entry)) (now (kind .entry)) p) q ⌝ }
 {
     let ps = Points {
         count: 1,
@@ -198,17 +192,4 @@ pub(crate) fn look_at(
         inside,
         level,
     }
-}
-
-// Row 40 of the first `count` points: the first that no triangle of e contains.
-pub(crate) fn all_on(triangle: &[usize; 64], e: usize, count: usize) -> Answer
-    requires { ⌜ count ≤ 64 ⌝ }
-    ensures { λ r. ⌜ r ≡ scan (λ g. row (ltb (getD (now (triangle .entry)) g 0) e) 40 g) count ⌝ }
-{
-    for g in 0..count {
-        if e <= triangle[g] {
-            return rows::refuse(40, g);
-        }
-    }
-    rows::accept()
 }

@@ -10,12 +10,11 @@ use mir.Val.{toZ, ofZ}
 use Rattle.rows.proofs.ScanLaws.{same-number}
 use Rattle.geometry.proofs.SizeLaws.{kept-as}
 use Rattle.location.specs.declared.seeking.Point.{Point}
-use Rattle.location.specs.Survey.{triangleIn, levelIn}
-use Rattle.gauges.specs.Lent.{Lent, lent, meshIn, stateIn, lentRows}
-use Rattle.gauges.specs.Calls.{isOn, triangleAt, levelAt}
-use Rattle.gauges.proofs.LookLaws.{elements-length, survey-answer, triangle-seen, level-seen, sight-refused, sight-accepted, few-triangles}
-use Rattle.gauges.proofs.looking.look_at.Statement.{statement}
-use Rattle.gauges.proofs.looking.look_at.Tie as tie
+use Rattle.looking.specs.Lent.{Lent, lent, lentRows}
+use Rattle.looking.specs.Looking.{isOn, triangleAt, levelAt}
+use Rattle.looking.proofs.LookLaws.{elements-length, look-answer, triangle-seen, level-seen, sight-refused, sight-accepted, few-triangles}
+use Rattle.looking.proofs.look_at.Statement.{statement}
+use Rattle.looking.proofs.look_at.Tie as tie
 
 abbrev start : tie.After-look → tie.Start
 start c = c .before .before .before .before .before .before .before .before .before
@@ -24,8 +23,7 @@ abbrev its : tie.Start → Lent
 its s = let a = s .args in lent (a .state .now) (a .x .now) (a .y .now) (a .tri .now) (a .h .now) (a .kind .now) (a .p)
 
 answered : (c : tie.After-look) → c .look .result .answer ≡ lentRows (its (start c))
-unfolding lentRows
-answered c = survey-answer _ _ _ _ _ (c .look .ensures)
+answered c = look-answer _ _ (c .look .ensures)
 
 returns : tie.Need-returns
 unfolding ofBits
@@ -49,10 +47,10 @@ module _ (c : tie.Else1) where
   }
 
   triangle : getD (k .look .result .triangle) 0 0 ≡ triangleAt b q
-  triangle = triangle-seen _ _ _ _ _ (k .look .ensures) (c .if1 .left) 0 (omega arith) (omega arith) ∙ ap (triangleIn (meshIn b) (stateIn b)) here
+  triangle = triangle-seen b _ (k .look .ensures) (c .if1 .left) 0 (omega arith) (omega arith) ∙ ap (triangleAt b) here
 
   level : getD (k .look .result .level) 0 nan ≡ levelAt b q
-  level = level-seen _ _ _ _ _ (k .look .ensures) (c .if1 .left) 0 (omega arith) (omega arith) ∙ ap (levelIn (meshIn b) (stateIn b)) here
+  level = level-seen b _ (k .look .ensures) (c .if1 .left) 0 (omega arith) (omega arith) ∙ ap (levelAt b) here
 
   inside : ltb (getD (k .look .result .triangle) 0 0) (length (b .tri) / 2 / 3) ≡ isOn b q
   inside = λ i. ltb (triangle i) (sym (elements-length 2 (λ n. n) (b .tri)) i / 3)
