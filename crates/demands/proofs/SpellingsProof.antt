@@ -15,7 +15,7 @@ use Rattle.bounds.specs.State.{stateRuns}
 use Rattle.surge.specs.Lent.{After, coldState, coldClock}
 use Rattle.forcings.specs.Forcings.{takenOf}
 use Rattle.forcings.proofs.SpellingLaws.{taken-upper}
-use Rattle.saves.specs.Lines.{edition2}
+use Rattle.editions.specs.Lines.{edition2}
 use Rattle.saves.specs.Save.{savedOf, saveText}
 use Rattle.saves.proofs.SaveLaws.{text-long, save-accepts, save-text}
 use Rattle.loads.specs.Load.{editionOf, clockIn, loadAnswer, stateIn, loadOf}

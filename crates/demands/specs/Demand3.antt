@@ -19,7 +19,7 @@ use Rattle.surge.specs.Lent.{Run, run, coldState, coldClock}
 use Rattle.surge.specs.Open.{openOf}
 use Rattle.surge.specs.Step.{advance, stepOf}
 use Rattle.passes.specs.Settle.{Rooms}
-use Rattle.saves.specs.Lines.{saveLength}
+use Rattle.editions.specs.Lines.{saveLength}
 use Rattle.saves.specs.Save.{saveOf}
 use Rattle.loads.specs.Load.{loadOf}
 use Rattle.loads.specs.Storable.{StorableParameters}

@@ -14,7 +14,7 @@ use Rattle.faults.specs.Faults.{lineFault}
 use Rattle.surge.specs.declared.Clock.{Clock}
 use Rattle.mesh.specs.Lent.{Mesh, N, E}
 use Rattle.bounds.specs.State.{stateRuns, runRows}
-use Rattle.saves.specs.Lines.{edition1, layoutAt}
+use Rattle.editions.specs.Lines.{edition1, layoutAt}
 use Rattle.saves.specs.Save.{Saved, saveText, saveText1, withWind}
 use Rattle.loads.specs.Load.{loadOf}
 use Rattle.demands.specs.Demand1.{Accepts}

@@ -12,7 +12,7 @@ use Rattle.surge.specs.declared.Clock.{Clock}
 use Rattle.mesh.specs.Lent.{Mesh, N}
 use Rattle.bounds.specs.State.{stateRuns}
 use Rattle.surge.specs.Lent.{After, after}
-use Rattle.saves.specs.Lines.{saveLength}
+use Rattle.editions.specs.Lines.{saveLength}
 use Rattle.saves.specs.Save.{Saved, SaveOut, saveText, saveOf, wrote}
 use Rattle.loads.specs.Load.{loadOf}
 use Rattle.loads.specs.Storable.{StorableState, StorableClock, StorableParameters}

@@ -9,7 +9,7 @@ use lib.Ieee.{Float, nan}
 use Rattle.frames.specs.Frames.{Layout, digitsOf}
 use Rattle.frames.specs.Reading.{float, values}
 use Rattle.frames.specs.Texts.{startOf}
-use Rattle.saves.specs.Lines.{Edition, edition1, endLayout, layoutAt, past, nodeLine, lineCount}
+use Rattle.editions.specs.Lines.{Edition, edition1, endLayout, layoutAt, past, nodeLine, lineCount}
 use Rattle.saves.proofs.LineLaws.{past-due, start-node, start-last}
 use Rattle.loads.specs.declared.loading.Edition as code
 use Rattle.loads.specs.declared.loading.Edition.the-variants.{One, Two}

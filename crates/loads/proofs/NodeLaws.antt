@@ -10,7 +10,7 @@ use Rattle.lists.specs.Runs.{inRun, runsOf}
 use Rattle.lists.proofs.RunLaws.{as-runs, run-same, run-turn, turned, turn-none, turn-all}
 use Rattle.quantities.specs.declared.Node.{Node}
 use Rattle.bounds.specs.State.{stateRuns, nodeOf}
-use Rattle.saves.specs.Lines.{Edition}
+use Rattle.editions.specs.Lines.{Edition}
 use Rattle.loads.specs.Load.{nodeIn, stateIn}
 use Rattle.loads.specs.Private.{stored}
 

@@ -15,7 +15,7 @@ use Rattle.frames.specs.Texts.{startOf}
 use Rattle.frames.proofs.ByteLaws.{digits-right}
 use Rattle.frames.proofs.FrameLaws.{frame-bytes}
 use Rattle.faults.specs.Faults.{isFramed, row20, fault, lineFault}
-use Rattle.saves.specs.Lines.{edition1, edition2, layoutAt, lineOf}
+use Rattle.editions.specs.Lines.{edition1, edition2, layoutAt, lineOf}
 use Rattle.saves.specs.Save.{Saved, values2, saveText}
 use Rattle.saves.proofs.SaveLaws.{text-long}
 use Rattle.loads.proofs.BackLaws.{found2}

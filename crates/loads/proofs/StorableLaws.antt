@@ -30,7 +30,7 @@ use Rattle.surge.specs.Step.{givenOf, advance}
 use Rattle.lists.proofs.RunLaws.{runs-length}
 use Rattle.loads.specs.Storable.{StorableClock, StorableState}
 use Rattle.loads.specs.Load.{lineIn, clockIn, nodeIn, stateIn}
-use Rattle.saves.specs.Lines.{Edition}
+use Rattle.editions.specs.Lines.{Edition}
 
 -- each value of a list is a binary64; past its end it is NaN
 abbrev pub AllFit : List Float → Type 0

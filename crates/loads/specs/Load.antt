@@ -1,7 +1,7 @@
 -- Document 01: a load. "A load goes through the lines, from 0, in each 20, 21, 22, 23, the length being that of the kind due there for the run's N,
 -- and a missing line being of wrong length; then trailing bytes …; then 10 over the loaded values." Document 02, #105: "We read both editions".
 use Prim.Native.Nat.{ℕ, _+_}
-use mathlib.Core.Bool.{Bool, true, cond, not, _&&_, _||_}
+use mathlib.Core.Bool.{cond}
 use mathlib.Core.List.{List, [], _∷_}
 use lib.Dec.{eqb, leb}
 use lib.ListN.{length, getD}
@@ -11,7 +11,7 @@ use Rattle.lists.specs.Runs.{runsOf}
 use Rattle.rows.specs.Scan.{row, _then_, scan}
 use Rattle.quantities.specs.declared.Parameters.{Parameters}
 use Rattle.quantities.specs.declared.Node.{Node}
-use Rattle.frames.specs.Frames.{bits, byteOf}
+use Rattle.frames.specs.Frames.{byteOf}
 use Rattle.frames.specs.Reading.{value, float}
 use Rattle.frames.specs.Texts.{startOf, lineAt, starts}
 use Rattle.faults.specs.Faults.{lineFault}
@@ -22,38 +22,12 @@ use Rattle.surge.specs.Lent.{After, after}
 use Rattle.nodes.specs.Rows.{meshRows}
 use Rattle.bounds.specs.State.{row1State}
 use Rattle.limits.specs.Limits.{inBounds}
-use Rattle.saves.specs.Lines.{head2, run2, endLayout, Edition, edition1, edition2, layoutAt, nodeLine, lineCount}
+use Rattle.editions.specs.Lines.{head2, Edition, edition1, edition2, layoutAt, nodeLine, lineCount}
+use Rattle.editions.specs.Rows.{row23, row25}
 
 -- "A head starting 01 … is measured by that kind, any other by the new": the characters 0 and 1
 abbrev pub editionOf : List ℕ → Edition
 editionOf t = cond (starts 48 49 t) edition1 edition2
-
--- ---- rows 23 and 25 of a line, by the kind that is due there
--- | 23 | N or E differs | line |: at a head for N or E, at the end line for N
-abbrev pub isHead : ℕ → Bool
-isHead kind = eqb kind 1 || eqb kind 4
-
-module _ (n e : ℕ) (line : List ℕ) where
-  -- N and E stand at the same bytes of both heads
-  abbrev pub countsRight : Bool
-  countsRight = eqb (value line (byteOf (head2 .widths) 0) 2) n && eqb (value line (byteOf (head2 .widths) 1) 2) e
-
-  unfoldable pub row23 : ℕ → ℕ → Answer
-  row23 kind j = row (cond (isHead kind) countsRight (cond (eqb kind 3) (eqb (value line (byteOf (endLayout .widths) 0) 2) n) true)) 23 j
-
--- "25 when a field of line 05 differs in any bit from the run's, after 23, line as place"
-module _ (p : Parameters) (sum : ℕ) (line : List ℕ) where
-  abbrev pub runRight : Bool
-  runRight =
-      let at = byteOf (run2 .widths) in
-      eqb (value line (at 0) 8) (bits (p .dt))
-      && eqb (value line (at 1) 8) (bits (p .tau))
-      && eqb (value line (at 2) 8) (bits (p .k))
-      && eqb (value line (at 3) 8) (bits (p .f))
-      && eqb (value line (at 4) 8) sum
-
-  unfoldable pub row25 : ℕ → ℕ → Answer
-  row25 kind j = row (not (eqb kind 5) || runRight) 25 j
 
 -- ---- a text of this edition, against a mesh of n nodes and e triangles, the sum of its D, and parameters
 module _ (d : Edition) (n : ℕ) (t : List ℕ) where

@@ -7,7 +7,7 @@ use Rattle.quantities.specs.declared.Node.{Node}
 use Rattle.quantities.specs.declared.Wind.{Wind}
 use Rattle.frames.specs.Frames.{byteOf}
 use Rattle.frames.specs.Reading.{float}
-use Rattle.saves.specs.Lines.{head1, Edition, edition1, edition2}
+use Rattle.editions.specs.Lines.{head1, Edition, edition1, edition2}
 use Rattle.loads.specs.declared.loading.Edition as code
 use Rattle.loads.specs.declared.loading.Edition.the-variants.{One, Two}
 use Rattle.loads.specs.Load.{lineIn}

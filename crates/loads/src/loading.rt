@@ -11,8 +11,8 @@ ghost use lib.ListN.{length};
 ghost use Rattle.rows.specs.Scan.{scan};
 ghost use Rattle.bounds.specs.State.{stateRuns};
 ghost use Rattle.frames.specs.Texts.{due, startOf};
-ghost use Rattle.saves.specs.Lines.{edition1, edition2, layoutAt, nodeLine, lineCount};
-ghost use Rattle.loads.specs.Load.{editionOf, row23, runRight, row25, lineIn, lineRows, trailingRow, clockIn, nodeIn, row10In, rowsIn, stateIn};
+ghost use Rattle.editions.specs.Lines.{edition1, edition2, layoutAt, nodeLine, lineCount};
+ghost use Rattle.loads.specs.Load.{editionOf, lineIn, lineRows, trailingRow, clockIn, nodeIn, row10In, rowsIn, stateIn};
 ghost use Rattle.loads.specs.Private.{linesOf, headWind, windIn, stored};
 
 // The editions of a save.
@@ -143,43 +143,6 @@ fn line_at(d: Edition, n: usize, text: &[u8], j: usize) -> &[u8]
     reading::part(text, start(d, n, j), count)
 }
 
-// Row 23 of a line of this kind: N and E at a head, N at the end line, nothing at another.
-fn counts(n: usize, e: usize, line: &[u8], kind: u8, j: usize) -> Answer
-    ensures { λ r. ⌜ r ≡ row23 n e (now (line .entry)) kind j ⌝ }
-{
-    if (kind == 1) | (kind == 4) {
-        let nodes = reading::value(line, 3, 2) == n as u64;
-        let triangles = reading::value(line, 5, 2) == e as u64;
-        return rows::tested(nodes & triangles, 23, j);
-    }
-    if kind == 3 {
-        return rows::tested(reading::value(line, 3, 2) == n as u64, 23, j);
-    }
-    rows::accept()
-}
-
-// The fields of a line 05 are the run's, bit by bit.
-fn run_right(p: Parameters, sum: u64, line: &[u8]) -> bool
-    ensures { λ r. ⌜ r ≡ runRight p sum (now (line .entry)) ⌝ }
-{
-    let dt = reading::value(line, 3, 8) == patterns::pattern_of(p.dt);
-    let tau = reading::value(line, 11, 8) == patterns::pattern_of(p.tau);
-    let k = reading::value(line, 19, 8) == patterns::pattern_of(p.k);
-    let f = reading::value(line, 27, 8) == patterns::pattern_of(p.f);
-    let same = reading::value(line, 35, 8) == sum;
-    dt & tau & k & f & same
-}
-
-// Row 25 of a line of this kind.
-fn settings(p: Parameters, sum: u64, line: &[u8], kind: u8, j: usize) -> Answer
-    ensures { λ r. ⌜ r ≡ row25 p sum (now (line .entry)) kind j ⌝ }
-{
-    if kind == 5 {
-        return rows::tested(run_right(p, sum, line), 25, j);
-    }
-    rows::accept()
-}
-
 // Rows 20 to 23 and 25 of line j.
 fn line_row(
     d: Edition,
@@ -195,10 +158,7 @@ fn line_row(
 {
     let line = line_at(d, n, text, j);
     let its = due(d, n, j);
-    let fault = faults::fault(line, its.digits, its.kind, j as u64, j);
-    let counts = counts(n, e, line, its.kind, j);
-    let settings = settings(p, sum, line, its.kind, j);
-    rows::first(fault, rows::first(counts, settings))
+    editions::line_row(line, its.digits, its.kind, n, e, sum, p, j)
 }
 
 // How many lines there are.

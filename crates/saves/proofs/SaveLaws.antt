@@ -15,7 +15,7 @@ use Rattle.quantities.specs.declared.Parameters.{Parameters}
 use Rattle.surge.specs.declared.Clock.{Clock}
 use Rattle.mesh.specs.Lent.{Mesh, N}
 use Rattle.bounds.specs.State.{runRows}
-use Rattle.saves.specs.Lines.{edition2, lineCount, saveLength}
+use Rattle.editions.specs.Lines.{edition2, lineCount, saveLength}
 use Rattle.saves.specs.Save.{Saved, savedOf, saveText, row24, saveAnswer, saveOut, wrote, saveOf}
 use Rattle.saves.proofs.LineLaws.{save-long}
 use Rattle.saves.proofs.WriteLaws.{lines-start}

@@ -12,7 +12,7 @@ use Rattle.lines.proofs.BuildLaws.{put-holding}
 use Rattle.lines.proofs.LaidLaws.{laid-next}
 use Rattle.frames.specs.Texts.{startOf, linesTo}
 use Rattle.frames.proofs.TextLaws.{lines-long}
-use Rattle.saves.specs.Lines.{edition2, layoutAt, lineCount, lineOf, saveLength}
+use Rattle.editions.specs.Lines.{edition2, layoutAt, lineCount, lineOf, saveLength}
 use Rattle.saves.specs.Save.{Saved, values2}
 use Rattle.saves.proofs.LineLaws.{fit2, line-long, start-below}
 

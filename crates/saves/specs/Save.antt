@@ -16,7 +16,7 @@ use Rattle.surge.specs.declared.Clock.{Clock}
 use Rattle.mesh.specs.Lent.{Mesh, N, E}
 use Rattle.areas.specs.Areas.{sumD}
 use Rattle.bounds.specs.State.{runRows}
-use Rattle.saves.specs.Lines.{Values, edition1, edition2, textOf, saveLength}
+use Rattle.editions.specs.Lines.{Values, edition1, edition2, textOf, saveLength}
 
 -- ---- what is saved: N and E, the sum of all D, the parameters, state and clock
 pub record Saved : Type 0 where

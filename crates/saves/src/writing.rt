@@ -9,7 +9,7 @@ ghost use lib.ListN.{length, drop};
 ghost use Rattle.frames.specs.Frames.{text, line};
 ghost use Rattle.lines.specs.Building.{holding};
 ghost use Rattle.bounds.specs.State.{stateRuns};
-ghost use Rattle.saves.specs.Lines.{head2, run2, node2, endLayout, edition2, lineOf, saveLength};
+ghost use Rattle.editions.specs.Lines.{head2, run2, node2, endLayout, edition2, lineOf, saveLength};
 ghost use Rattle.saves.specs.Save.{Saved, runValues, stateValues, values2, saveText};
 
 fn head_line(n: usize, e: usize, clock: Clock) -> Line

@@ -51,6 +51,7 @@ each-determined = record {
   frames·reading·part-determined = λ κs a x y v w p q. (same p q, refl);
   frames·reading·starts-determined = λ κs a x y v w p q. (same p q, refl);
   faults·fault-determined = λ κs a x y v w p q. (same p q, refl);
+  editions·line-row-determined = λ κs a x y v w p q. (same p q, refl);
   lines·Line·begin-determined = λ κs a x y v w p q. (same p q, refl);
   lines·Line·append-determined = λ κs a x y v w p q. (same p q, refl);
   lines·Line·seal-determined = λ κs a x y v w p q. (same p q, refl);

@@ -71,6 +71,8 @@ use Rattle.frames.proofs.reading.starts.Kinds as frames·reading·starts-kinds
 use Rattle.frames.proofs.reading.starts.Reads as frames·reading·starts-reads
 use Rattle.faults.proofs.fault.Kinds as faults·fault-kinds
 use Rattle.faults.proofs.fault.Reads as faults·fault-reads
+use Rattle.editions.proofs.line_row.Kinds as editions·line-row-kinds
+use Rattle.editions.proofs.line_row.Reads as editions·line-row-reads
 use Rattle.lines.proofs.Line.begin.Kinds as lines·Line·begin-kinds
 use Rattle.lines.proofs.Line.begin.Reads as lines·Line·begin-reads
 use Rattle.lines.proofs.Line.append.Kinds as lines·Line·append-kinds
@@ -163,6 +165,8 @@ use Rattle.forcings.proofs.read_forcing.Kinds as forcings·read-forcing-kinds
 use Rattle.forcings.proofs.read_forcing.Reads as forcings·read-forcing-reads
 use Rattle.saves.proofs.save.Kinds as saves·save-kinds
 use Rattle.saves.proofs.save.Reads as saves·save-reads
+use Rattle.editions.proofs.line_row.Kinds as editions·line-row-kinds
+use Rattle.editions.proofs.line_row.Reads as editions·line-row-reads
 use Rattle.loads.proofs.load.Kinds as loads·load-kinds
 use Rattle.loads.proofs.load.Reads as loads·load-reads
 use Rattle.capi.proofs.surge_open.Kinds as capi·surge-open-kinds
@@ -232,6 +236,7 @@ pub record EachDetermined : Type 0 where
   pub frames·reading·part-determined : DeterminedSeen frames·reading·part-kinds.ps frames·reading·part-kinds.r frames·reading·part-reads.Post (λ κs x. x .now)
   pub frames·reading·starts-determined : Determined frames·reading·starts-kinds.ps frames·reading·starts-kinds.r frames·reading·starts-reads.Post
   pub faults·fault-determined : Determined faults·fault-kinds.ps faults·fault-kinds.r faults·fault-reads.Post
+  pub editions·line-row-determined : Determined editions·line-row-kinds.ps editions·line-row-kinds.r editions·line-row-reads.Post
   pub lines·Line·begin-determined : Determined lines·Line·begin-kinds.ps lines·Line·begin-kinds.r lines·Line·begin-reads.Post
   pub lines·Line·append-determined : Determined lines·Line·append-kinds.ps lines·Line·append-kinds.r lines·Line·append-reads.Post
   pub lines·Line·seal-determined : Determined lines·Line·seal-kinds.ps lines·Line·seal-kinds.r lines·Line·seal-reads.Post

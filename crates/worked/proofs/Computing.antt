@@ -28,7 +28,8 @@ use Rattle.passes.specs.Row13.{row13}
 use Rattle.surge.specs.Step.{advance, stepRows, stepsTo, stepOf}
 use Rattle.frames.specs.Texts.{startOf, linesTo}
 use Rattle.saves.specs.Save.{row24, saveAnswer, saveOf}
-use Rattle.loads.specs.Load.{row23, row25, lineRows, trailingRow, clockIn, nodeIn, rowsIn, loadAnswer, stateIn, loadOf}
+use Rattle.editions.specs.Rows.{row23, row25}
+use Rattle.loads.specs.Load.{lineRows, trailingRow, clockIn, nodeIn, rowsIn, loadAnswer, stateIn, loadOf}
 
 unfoldable pub arithmetic : Unit {0}
 unfolding round le lt eq add sub mul div neg ofInt toBits ofBits decimal minus within

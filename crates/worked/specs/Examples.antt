@@ -22,7 +22,7 @@ use Rattle.geometry.specs.Geometry.{D}
 use Rattle.surge.specs.Open.{openAnswer}
 use Rattle.surge.specs.Step.{stepOf}
 use Rattle.passes.specs.Settle.{Rooms, lentRooms}
-use Rattle.saves.specs.Lines.{edition1, edition2, lineOf}
+use Rattle.editions.specs.Lines.{edition1, edition2, lineOf}
 use Rattle.saves.specs.Save.{savedOf, values1, values2, saveText, saveText1}
 use Rattle.loads.specs.Load.{loadAnswer}
 use Rattle.forcelog.specs.Empty.{headWith, endWith}

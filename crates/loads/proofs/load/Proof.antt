@@ -13,7 +13,7 @@ use Rattle.areas.proofs.AreaLaws.{all-counted}
 use Rattle.nodes.proofs.PartLaws.{mesh-parts}
 use Rattle.bounds.specs.State.{row1State}
 use Rattle.bounds.proofs.StateLaws.{long-state}
-use Rattle.saves.specs.Lines.{Edition}
+use Rattle.editions.specs.Lines.{Edition}
 use Rattle.loads.specs.Load.{clockIn, rowsIn, stateIn, loadAnswer}
 use Rattle.loads.proofs.LoadLaws.{load-refused, load-taken}
 use Rattle.loads.proofs.load.Statement.{statement}

@@ -14,7 +14,7 @@ use Rattle.areas.proofs.AreaLaws.{all-counted}
 use Rattle.bounds.specs.State.{runRows}
 use Rattle.bounds.proofs.StateLaws.{AcceptedRun, accepted-run}
 use Rattle.saves.specs.Save.{saveText, row24, saveAnswer}
-use Rattle.saves.specs.Lines.{saveLength}
+use Rattle.editions.specs.Lines.{saveLength}
 use Rattle.saves.proofs.SaveLaws.{save-refused, save-written}
 use Rattle.saves.proofs.save.Statement.{statement}
 use Rattle.saves.proofs.save.Tie as tie

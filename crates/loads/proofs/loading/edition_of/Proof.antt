@@ -1,6 +1,6 @@
 use mathlib.Core.Path.{sym, ap, _∙_}
 use mathlib.Core.Bool.{Bool, cond}
-use Rattle.saves.specs.Lines.{edition1, edition2}
+use Rattle.editions.specs.Lines.{edition1, edition2}
 use Rattle.loads.proofs.loading.edition_of.Statement.{statement}
 use Rattle.loads.proofs.loading.edition_of.Tie as tie
 

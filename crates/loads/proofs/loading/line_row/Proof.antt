@@ -6,10 +6,8 @@ use Rattle.loads.proofs.loading.line_row.Tie as tie
 returns : tie.Need-returns
 unfolding lineRows lineFault
 returns c =
-    let s = c .before .before in
-    let f = s .before .before in
-    let d = f .before in
-    rw (c .first2 .ensures, c .before .first .ensures, s .settings .ensures, s .before .counts .ensures, f .fault .ensures, d .due .ensures .1, d .due .ensures .0, d .before .line-at .ensures)
+    let d = c .before in
+    rw (c .line-row .ensures, d .due .ensures .1, d .due .ensures .0, d .before .line-at .ensures)
 
 pub line-row-spec : {M : Type 1} → statement M
-line-row-spec = tie.close (tie.spec (λ c κs. c .before .pre) (λ c κs. tt) (λ c κs. tt) (λ c κs. tt) (λ c κs. tt) (λ c κs. tt) (λ c κs. tt) returns)
+line-row-spec = tie.close (tie.spec (λ c κs. c .before .pre) (λ c κs. tt) (λ c κs. tt) returns)

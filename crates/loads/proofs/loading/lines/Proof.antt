@@ -4,7 +4,7 @@ use native.Mathlib.Omega.{arith}
 use borrow.Author.Count.{below-none, below-more}
 use borrow.Author.Needs.{needs}
 use Rattle.rows.proofs.ScanLaws.{scan-none, scan-hit, same-number, other-number}
-use Rattle.saves.specs.Lines.{lineCount}
+use Rattle.editions.specs.Lines.{lineCount}
 use Rattle.loads.specs.Load.{lineRows}
 use Rattle.loads.specs.Private.{linesOf}
 use Rattle.loads.proofs.loading.lines.Statement.{statement}

@@ -1,7 +1,7 @@
 use mathlib.Core.Path.{sym, ap, _∙_}
 use borrow.Author.Needs.{needs}
 use Rattle.frames.specs.Texts.{startOf}
-use Rattle.saves.specs.Lines.{edition1, edition2, nodeLine}
+use Rattle.editions.specs.Lines.{edition1, edition2, nodeLine}
 use Rattle.loads.specs.declared.loading.Edition.{Edition}
 use Rattle.loads.specs.Load.{lineIn}
 use Rattle.loads.specs.Private.{linesOf}

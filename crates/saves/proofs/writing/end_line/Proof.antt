@@ -5,7 +5,7 @@ use borrow.Author.Needs.{needs}
 use Rattle.frames.specs.Frames.{line}
 use Rattle.lines.specs.Building.{withFields}
 use Rattle.lines.proofs.WholeLaws.{built}
-use Rattle.saves.specs.Lines.{endLayout}
+use Rattle.editions.specs.Lines.{endLayout}
 use Rattle.saves.proofs.writing.end_line.Statement.{statement}
 use Rattle.saves.proofs.writing.end_line.Tie as tie
 

@@ -4,7 +4,7 @@ use borrow.Author.Needs.{needs}
 use Rattle.frames.specs.Frames.{line}
 use Rattle.lines.specs.Building.{withFields}
 use Rattle.lines.proofs.WholeLaws.{built}
-use Rattle.saves.specs.Lines.{head2}
+use Rattle.editions.specs.Lines.{head2}
 use Rattle.saves.proofs.writing.head_line.Statement.{statement}
 use Rattle.saves.proofs.writing.head_line.Tie as tie
 

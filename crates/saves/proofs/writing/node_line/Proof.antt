@@ -7,7 +7,7 @@ use borrow.Author.Needs.{needs}
 use Rattle.frames.specs.Frames.{line}
 use Rattle.lines.specs.Building.{withFields}
 use Rattle.lines.proofs.WholeLaws.{built}
-use Rattle.saves.specs.Lines.{node2}
+use Rattle.editions.specs.Lines.{node2}
 use Rattle.saves.specs.Save.{stateValues}
 use Rattle.saves.proofs.writing.node_line.Statement.{statement}
 use Rattle.saves.proofs.writing.node_line.Tie as tie

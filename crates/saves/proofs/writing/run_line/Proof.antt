@@ -2,7 +2,7 @@ use lib.Dec.{lit<}
 use Rattle.frames.specs.Frames.{line}
 use Rattle.lines.specs.Building.{withFields}
 use Rattle.lines.proofs.WholeLaws.{built}
-use Rattle.saves.specs.Lines.{run2}
+use Rattle.editions.specs.Lines.{run2}
 use Rattle.saves.specs.Save.{runValues}
 use Rattle.saves.proofs.writing.run_line.Statement.{statement}
 use Rattle.saves.proofs.writing.run_line.Tie as tie

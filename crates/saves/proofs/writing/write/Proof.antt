@@ -4,7 +4,7 @@ use native.Mathlib.Omega.{arith}
 use borrow.Author.Needs.{needs}
 use lib.ListN.{length}
 use Rattle.frames.specs.Texts.{linesTo}
-use Rattle.saves.specs.Lines.{edition2, lineCount}
+use Rattle.editions.specs.Lines.{edition2, lineCount}
 use Rattle.saves.specs.Save.{Saved}
 use Rattle.saves.proofs.LineLaws.{save-long}
 use Rattle.saves.proofs.WriteLaws.{lines-start, reached, soFar, so-far-long, put-next}

@@ -2,9 +2,9 @@ use mathlib.Core.Path.{_≡_, refl, sym}
 use mathlib.Core.Bool.{true, false}
 use borrow.Author.Tests.{ne-eqb}
 use Rattle.rows.proofs.ScanLaws.{row-holds}
-use Rattle.loads.specs.Load.{isHead, row23}
-use Rattle.loads.proofs.loading.counts.Statement.{statement}
-use Rattle.loads.proofs.loading.counts.Tie as tie
+use Rattle.editions.specs.Rows.{isHead, row23}
+use Rattle.editions.proofs.counts.Statement.{statement}
+use Rattle.editions.proofs.counts.Tie as tie
 
 returns : tie.Need-returns
 unfolding row23

@@ -1,9 +1,9 @@
 use mathlib.Core.Path.{refl, sym}
 use borrow.Author.Tests.{ne-eqb}
 use Rattle.rows.proofs.ScanLaws.{row-holds}
-use Rattle.loads.specs.Load.{row25}
-use Rattle.loads.proofs.loading.settings.Statement.{statement}
-use Rattle.loads.proofs.loading.settings.Tie as tie
+use Rattle.editions.specs.Rows.{row25}
+use Rattle.editions.proofs.settings.Statement.{statement}
+use Rattle.editions.proofs.settings.Tie as tie
 
 returns : tie.Need-returns
 unfolding row25

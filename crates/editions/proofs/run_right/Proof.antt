@@ -1,5 +1,5 @@
-use Rattle.loads.proofs.loading.run_right.Statement.{statement}
-use Rattle.loads.proofs.loading.run_right.Tie as tie
+use Rattle.editions.proofs.run_right.Statement.{statement}
+use Rattle.editions.proofs.run_right.Tie as tie
 
 returns : tie.Need-returns
 returns c =

@@ -1,0 +1,64 @@
+// The lines of a save in either edition, as one description, and the rows of one line of them.
+use frames::reading;
+use quantities::Parameters;
+use rows::Answer;
+ghost use mathlib.Core.Path.{_≡_};
+ghost use Rattle.rows.specs.Scan.{_then_};
+ghost use Rattle.faults.specs.Faults.{fault};
+ghost use Rattle.editions.specs.Rows.{row23, runRight, row25};
+
+// Row 23 of a line of this kind: N and E at a head, N at the end line, nothing at another.
+fn counts(n: usize, e: usize, line: &[u8], kind: u8, j: usize) -> Answer
+    ensures { λ r. ⌜ r ≡ row23 n e (now (line .entry)) kind j ⌝ }
+{
+    if (kind == 1) | (kind == 4) {
+        let nodes = reading::value(line, 3, 2) == n as u64;
+        let triangles = reading::value(line, 5, 2) == e as u64;
+        return rows::tested(nodes & triangles, 23, j);
+    }
+    if kind == 3 {
+        return rows::tested(reading::value(line, 3, 2) == n as u64, 23, j);
+    }
+    rows::accept()
+}
+
+// The fields of a line 05 are the run's, bit by bit.
+fn run_right(p: Parameters, sum: u64, line: &[u8]) -> bool
+    ensures { λ r. ⌜ r ≡ runRight p sum (now (line .entry)) ⌝ }
+{
+    let dt = reading::value(line, 3, 8) == patterns::pattern_of(p.dt);
+    let tau = reading::value(line, 11, 8) == patterns::pattern_of(p.tau);
+    let k = reading::value(line, 19, 8) == patterns::pattern_of(p.k);
+    let f = reading::value(line, 27, 8) == patterns::pattern_of(p.f);
+    let same = reading::value(line, 35, 8) == sum;
+    dt & tau & k & f & same
+}
+
+// Row 25 of a line of this kind.
+fn settings(p: Parameters, sum: u64, line: &[u8], kind: u8, j: usize) -> Answer
+    ensures { λ r. ⌜ r ≡ row25 p sum (now (line .entry)) kind j ⌝ }
+{
+    if kind == 5 {
+        return rows::tested(run_right(p, sum, line), 25, j);
+    }
+    rows::accept()
+}
+
+// Rows 20 to 23 and 25 of line j, where these digits and this kind are due: of a mesh of n nodes and e triangles, the sum of its D, and parameters.
+pub fn line_row(
+    line: &[u8],
+    due: usize,
+    kind: u8,
+    n: usize,
+    e: usize,
+    sum: u64,
+    p: Parameters,
+    j: usize,
+) -> Answer
+    ensures { λ r. ⌜ r ≡ (fault (now (line .entry)) due kind j j then row23 n e (now (line .entry)) kind j then row25 p sum (now (line .entry)) kind j) ⌝ }
+{
+    let fault = faults::fault(line, due, kind, j as u64, j);
+    let counts = counts(n, e, line, kind, j);
+    let settings = settings(p, sum, line, kind, j);
+    rows::first(fault, rows::first(counts, settings))
+}
