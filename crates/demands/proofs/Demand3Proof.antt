@@ -22,7 +22,8 @@ use Rattle.loads.specs.Storable.{StorableState, StorableClock, StorableParamete
 use Rattle.loads.proofs.OwnLaws.{saved-loaded}
 use Rattle.loads.proofs.StorableLaws.{past-fit, clock-storable, state-storable, cold-clock-storable, cold-state-storable, next-state-storable, next-clock-storable}
 use Rattle.saves.proofs.SaveLaws.{save-accepts}
-use Rattle.loads.specs.Load.{editionOf, clockIn, loadAnswer, stateIn, loadOf}
+use Rattle.editions.specs.Lines.{editionOf}
+use Rattle.loads.specs.Load.{clockIn, loadAnswer, stateIn, loadOf}
 use Rattle.loads.proofs.LoadLaws.{load-took, load-stayed, load-long, loaded-rows}
 use Rattle.history.specs.History.{Reply, Call, history, Laws}
 use Rattle.history.proofs.Demand3.{demand3, held-good, any-save-of-a-text}

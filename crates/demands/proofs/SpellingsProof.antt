@@ -15,10 +15,10 @@ use Rattle.bounds.specs.State.{stateRuns}
 use Rattle.surge.specs.Lent.{After, coldState, coldClock}
 use Rattle.forcings.specs.Forcings.{takenOf}
 use Rattle.forcings.proofs.SpellingLaws.{taken-upper}
-use Rattle.editions.specs.Lines.{edition2}
+use Rattle.editions.specs.Lines.{edition2, editionOf}
 use Rattle.saves.specs.Save.{savedOf, saveText}
 use Rattle.saves.proofs.SaveLaws.{text-long, save-accepts, save-text}
-use Rattle.loads.specs.Load.{editionOf, clockIn, loadAnswer, stateIn, loadOf}
+use Rattle.loads.specs.Load.{clockIn, loadAnswer, stateIn, loadOf}
 use Rattle.loads.specs.Storable.{StorableParameters}
 use Rattle.loads.proofs.LoadLaws.{tookText, load-took, loaded-rows}
 use Rattle.loads.proofs.BackLaws.{edition-2}

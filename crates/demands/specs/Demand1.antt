@@ -20,9 +20,9 @@ use Rattle.surge.specs.Step.{StepOut, givenOf, stepRows}
 use Rattle.passes.specs.Equations.{node, newWind, rise, U′, V′}
 use Rattle.passes.specs.Row13.{row13}
 use Rattle.passes.specs.Settle.{Rooms, workRuns}
-use Rattle.editions.specs.Lines.{saveLength}
+use Rattle.editions.specs.Lines.{saveLength, editionOf}
 use Rattle.saves.specs.Save.{savedOf, saveText, saveAnswer, SaveOut, wrote}
-use Rattle.loads.specs.Load.{editionOf, clockIn, loadAnswer, stateIn}
+use Rattle.loads.specs.Load.{clockIn, loadAnswer, stateIn}
 use Rattle.forcings.specs.Forcings.{nodesOf, forcingOf, forcingAnswer, Taken}
 use Rattle.demands.specs.Contracts.{Opening, Stepping, Saving, Loading, Reading, OpeningC, SteppingC, SavingC, LoadingC, ReadingC}
 

@@ -11,9 +11,9 @@ use Rattle.surge.specs.declared.Clock.{Clock}
 use Rattle.mesh.specs.Lent.{Mesh, N}
 use Rattle.bounds.specs.State.{stateRuns}
 use Rattle.forcings.specs.Forcings.{takenOf}
-use Rattle.editions.specs.Lines.{edition2}
+use Rattle.editions.specs.Lines.{edition2, editionOf}
 use Rattle.saves.specs.Save.{savedOf, saveText, saveOf}
-use Rattle.loads.specs.Load.{editionOf, loadOf}
+use Rattle.loads.specs.Load.{loadOf}
 use Rattle.loads.specs.Storable.{StorableState, StorableClock, StorableParameters}
 use Rattle.demands.specs.Contracts.{Loading, Reading, LoadingC, ReadingC}
 use Rattle.demands.specs.Demand1.{Accepts}

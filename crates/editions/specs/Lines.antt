@@ -5,7 +5,7 @@ use mathlib.Core.Bool.{cond}
 use lib.Dec.{ltb}
 use lib.ListN.{length}
 use Rattle.frames.specs.Frames.{Frame, Layout, line, byteOf}
-use Rattle.frames.specs.Texts.{linesTo}
+use Rattle.frames.specs.Texts.{linesTo, starts}
 
 -- ---- the line kinds
 -- "01 head, sequence 0: N (2), E (2), step (4), Wx, Wy. 56 digits."
@@ -50,6 +50,10 @@ edition1 = record { heads = head1 ∷ []; node = node1; windLine = λ _. 0; wind
 
 abbrev pub edition2 : Edition
 edition2 = record { heads = head2 ∷ run2 ∷ []; node = node2; windLine = past (head2 ∷ run2 ∷ []); windByte = byteOf (node2 .widths) 4 }
+
+-- "A head starting 01 … is measured by that kind, any other by the new": the characters 0 and 1
+abbrev pub editionOf : List ℕ → Edition
+editionOf t = cond (starts 48 49 t) edition1 edition2
 
 -- what is due at line j of a save of n nodes: these heads, nodes, end
 abbrev pub layoutFrom : List Layout → Layout → ℕ → ℕ → Layout

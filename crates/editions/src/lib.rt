@@ -1,11 +1,114 @@
 // The lines of a save in either edition, as one description, and the rows of one line of them.
 use frames::reading;
 use quantities::Parameters;
+use quantities::Wind;
 use rows::Answer;
 ghost use mathlib.Core.Path.{_≡_};
+ghost use Prim.Native.Nat.{_≤_};
 ghost use Rattle.rows.specs.Scan.{_then_};
+ghost use Rattle.frames.specs.Texts.{due};
 ghost use Rattle.faults.specs.Faults.{fault};
+ghost use Rattle.editions.specs.Lines.{edition1, edition2, editionOf, layoutAt};
+ghost use Rattle.editions.specs.Editions.{linesOf, windIn};
 ghost use Rattle.editions.specs.Rows.{row23, runRight, row25};
+
+// The editions of a save.
+pub enum Edition {
+    One,
+    Two,
+}
+
+// A text that starts with 01 is of edition 1, any other of edition 2.
+pub fn edition_of(text: &[u8]) -> Edition
+    ensures { λ r. ⌜ linesOf r ≡ editionOf (now (text .entry)) ⌝ }
+{
+    if reading::starts(text, b'0', b'1') {
+        Edition::One
+    } else {
+        Edition::Two
+    }
+}
+
+// A kind of line: its digits and its kind byte.
+pub struct LineKind {
+    pub digits: usize,
+    pub kind: u8,
+}
+
+// What is due at line j of edition 1: head, nodes, end.
+fn due_in_one(n: usize, j: usize) -> LineKind
+    ensures { λ r. ⌜ (r .digits ≡ due (layoutAt edition1 n) j) × (r .kind ≡ layoutAt edition1 n j .kind) × (r .digits ≤ 104) ⌝ }
+{
+    if j == 0 {
+        return LineKind {
+            digits: 56,
+            kind: 1,
+        };
+    }
+    if j <= n {
+        LineKind {
+            digits: 72,
+            kind: 2,
+        }
+    } else {
+        LineKind {
+            digits: 12,
+            kind: 3,
+        }
+    }
+}
+
+// And of edition 2: head, line 05, nodes, end.
+fn due_in_two(n: usize, j: usize) -> LineKind
+    ensures { λ r. ⌜ (r .digits ≡ due (layoutAt edition2 n) j) × (r .kind ≡ layoutAt edition2 n j .kind) × (r .digits ≤ 104) ⌝ }
+{
+    if j == 0 {
+        return LineKind {
+            digits: 24,
+            kind: 4,
+        };
+    }
+    if j == 1 {
+        return LineKind {
+            digits: 88,
+            kind: 5,
+        };
+    }
+    if j - 2 < n {
+        LineKind {
+            digits: 104,
+            kind: 6,
+        }
+    } else {
+        LineKind {
+            digits: 12,
+            kind: 3,
+        }
+    }
+}
+
+// And of either.
+pub fn due(d: Edition, n: usize, j: usize) -> LineKind
+    ensures { λ r. ⌜ (r .digits ≡ due (layoutAt (linesOf d) n) j) × (r .kind ≡ layoutAt (linesOf d) n j .kind) × (r .digits ≤ 104) ⌝ }
+{
+    match d {
+        Edition::One => due_in_one(n, j),
+        Edition::Two => due_in_two(n, j),
+    }
+}
+
+// The wind of a node, from the fields of its line: edition 1 has none, and every node has the head's.
+pub fn node_wind(d: Edition, held: Wind, values: [u64; 6]) -> Wind
+    ensures { λ r. ⌜ r ≡ windIn d held values ⌝ }
+{
+    match d {
+        Edition::One => held,
+        Edition::Two => Wind {
+            x: patterns::float_of(values[4]),
+            y: patterns::float_of(values[5]),
+        },
+    }
+}
 
 // Row 23 of a line of this kind: N and E at a head, N at the end line, nothing at another.
 fn counts(n: usize, e: usize, line: &[u8], kind: u8, j: usize) -> Answer

@@ -24,12 +24,12 @@ use Rattle.faults.specs.Faults.{fault, lineFault}
 use Rattle.faults.proofs.FaultLaws.{line-fine}
 use Rattle.surge.proofs.NextLaws.{six-runs}
 use Rattle.bounds.specs.State.{nodeOf}
-use Rattle.editions.specs.Lines.{Edition, Values, run2, node1, node2, endLayout, edition1, edition2, layoutAt, lineCount, lineOf, textOf}
+use Rattle.editions.specs.Lines.{Edition, Values, run2, node1, node2, endLayout, edition1, edition2, layoutAt, lineCount, lineOf, textOf, editionOf}
 use Rattle.saves.specs.Save.{Saved, runValues, stateValues, stateValues1, values1, values2, saveText, saveText1, withWind}
 use Rattle.saves.proofs.LineLaws.{Fitting, all-laid, line-long, fit1, fit2}
 use Rattle.loads.specs.Storable.{StorableClock, StorableState, StorableParameters}
 use Rattle.editions.specs.Rows.{isHead, row23, row25}
-use Rattle.loads.specs.Load.{editionOf, lineIn, lineRows, clockIn, nodeIn, stateIn}
+use Rattle.loads.specs.Load.{lineIn, lineRows, clockIn, nodeIn, stateIn}
 use Rattle.loads.proofs.NodeLaws.{loaded-all}
 
 -- ---- in either edition

@@ -10,39 +10,24 @@ use Rattle.frames.specs.Frames.{Layout, digitsOf}
 use Rattle.frames.specs.Reading.{float, values}
 use Rattle.frames.specs.Texts.{startOf}
 use Rattle.editions.specs.Lines.{Edition, edition1, endLayout, layoutAt, past, nodeLine, lineCount}
-use Rattle.saves.proofs.LineLaws.{past-due, start-node, start-last}
-use Rattle.loads.specs.declared.loading.Edition as code
-use Rattle.loads.specs.declared.loading.Edition.the-variants.{One, Two}
+use Rattle.saves.proofs.LineLaws.{start-node, start-last}
+use Rattle.editions.specs.declared.Edition as code
+use Rattle.editions.specs.declared.Edition.the-variants.{One, Two}
 use Rattle.loads.specs.Load.{lineIn, nodeIn}
-use Rattle.loads.specs.Private.{linesOf, headWind, windIn}
-
-past-sum : (ls : List Layout) (i : ℕ) → past ls i ≡ length ls + i
-past-sum [] i = omega arith
-past-sum (l ∷ ls) i = omega (arith, past-sum ls i)
+use Rattle.editions.specs.Editions.{linesOf, windIn}
+use Rattle.editions.proofs.LineLaws.{its-node, node-due}
+use Rattle.loads.specs.Private.{headWind}
 
 module _ (d : Edition) (n : ℕ) where
-  -- a line past the heads is a node's, or the end
-  its-node : (j : ℕ) → length (d .heads) ≤ j → j ≡ nodeLine d (j - length (d .heads))
-  its-node j h = omega (arith, past-sum (d .heads) (j - length (d .heads)))
-
-  node-due : (i : ℕ) → i < n → layoutAt d n (nodeLine d i) ≡ d .node
-  node-due i l = rw (past-due (d .heads) (d .node) n i, lt-ltb i n l)
-
-  pub at-node : (j : ℕ) → length (d .heads) ≤ j → j - length (d .heads) < n → layoutAt d n j ≡ d .node
-  at-node j h l = ap (layoutAt d n) (its-node j h) ∙ node-due (j - length (d .heads)) l
-
-  pub at-end : (j : ℕ) → length (d .heads) ≤ j → n ≤ j - length (d .heads) → layoutAt d n j ≡ endLayout
-  at-end j h l = ap (layoutAt d n) (its-node j h) ∙ rw (past-due (d .heads) (d .node) n (j - length (d .heads)), le-ltb (j - length (d .heads)) n l)
-
   -- where it starts
   pub start-from : (j : ℕ) → length (d .heads) ≤ j → j < lineCount d n
       → startOf (layoutAt d n) j ≡ startOf (layoutAt d n) (nodeLine d 0) + (digitsOf (d .node .widths) + 1) * (j - length (d .heads))
-  start-from j h l = ap (startOf (layoutAt d n)) (its-node j h) ∙ start-node d n (j - length (d .heads)) (omega arith)
+  start-from j h l = ap (startOf (layoutAt d n)) (its-node d n j h) ∙ start-node d n (j - length (d .heads)) (omega arith)
 
   -- a node's line
   pub node-line : (t : List ℕ) (i : ℕ) → i < n
       → take (digitsOf (d .node .widths) + 1) (drop (startOf (layoutAt d n) (nodeLine d 0) + (digitsOf (d .node .widths) + 1) * i) t) ≡ lineIn d n t (nodeLine d i)
-  node-line t i l = rw (node-due i l, start-node d n i (omega arith))
+  node-line t i l = rw (node-due d n i l, start-node d n i (omega arith))
 
 -- "70+73N bytes": edition 1 is read, and no longer written
 pub save1-long : (n : ℕ) → startOf (layoutAt edition1 n) (lineCount edition1 n) ≡ 70 + 73 * n

@@ -24,8 +24,8 @@ use Rattle.bounds.proofs.StateLaws.{long-state, in-bounds}
 use Rattle.surge.proofs.NextLaws.{six-runs}
 use Rattle.areas.specs.Areas.{sumD}
 use Rattle.frames.specs.Texts.{startOf}
-use Rattle.editions.specs.Lines.{layoutAt, lineCount}
-use Rattle.loads.specs.Load.{editionOf, lineRows, trailingRow, clockIn, nodeIn, rowsIn, loadAnswer, stateIn, loadOf}
+use Rattle.editions.specs.Lines.{layoutAt, lineCount, editionOf}
+use Rattle.loads.specs.Load.{lineRows, trailingRow, clockIn, nodeIn, rowsIn, loadAnswer, stateIn, loadOf}
 
 module _ (m : Mesh) (p : Parameters) (t : List ℕ) (state : List Float) where
   -- the text's state and clock

@@ -22,12 +22,12 @@ use Rattle.areas.proofs.AreaLaws.{sum-small}
 use Rattle.surge.specs.Lent.{After, after}
 use Rattle.bounds.specs.State.{stateRuns, nodeOf, runRows}
 use Rattle.bounds.proofs.StateLaws.{AcceptedRun, accepted-run}
-use Rattle.editions.specs.Lines.{Edition, Values, edition1, edition2, layoutAt, lineCount, lineOf, textOf, saveLength}
+use Rattle.editions.specs.Lines.{Edition, Values, edition1, edition2, layoutAt, lineCount, lineOf, textOf, saveLength, editionOf}
 use Rattle.saves.specs.Save.{Saved, savedOf, values1, values2, saveText, saveText1, withWind, saveAnswer, wrote, saveOf}
 use Rattle.saves.proofs.LineLaws.{Fitting, fit1, fit2, line-long}
 use Rattle.saves.proofs.SaveLaws.{save-writes, save-accepts, save-answered, save-text}
 use Rattle.loads.specs.Storable.{StorableClock, StorableState, StorableParameters}
-use Rattle.loads.specs.Load.{editionOf, row10In, lineRows, trailingRow, clockIn, nodeIn, rowsIn, loadAnswer, stateIn, loadOf}
+use Rattle.loads.specs.Load.{row10In, lineRows, trailingRow, clockIn, nodeIn, rowsIn, loadAnswer, stateIn, loadOf}
 use Rattle.loads.proofs.NodeLaws.{loaded-all}
 use Rattle.loads.proofs.LoadLaws.{load-took, loaded-rows}
 use Rattle.loads.proofs.StorableLaws.{clock-storable, state-storable}

@@ -20,9 +20,9 @@ use Rattle.surge.specs.declared.Clock.{Clock}
 use Rattle.mesh.specs.Lent.{Mesh, N, E}
 use Rattle.areas.specs.Areas.{sumD}
 use Rattle.limits.specs.Limits.{inBounds}
-use Rattle.editions.specs.Lines.{Edition, edition1, edition2, layoutAt, nodeLine, lineCount}
+use Rattle.editions.specs.Lines.{Edition, edition1, edition2, layoutAt, nodeLine, lineCount, editionOf}
 use Rattle.editions.specs.Rows.{row23, row25}
-use Rattle.loads.specs.Load.{editionOf, lineIn, lineRows, trailingRow, clockIn, nodeIn, row10In, rowsIn, loadAnswer, stateIn, loadOf}
+use Rattle.loads.specs.Load.{lineIn, lineRows, trailingRow, clockIn, nodeIn, row10In, rowsIn, loadAnswer, stateIn, loadOf}
 
 -- the edition is told by two digits that have no case
 edition-upper : (t : List ℕ) → editionOf (inUpper t) ≡ editionOf t

@@ -29,10 +29,10 @@ use Rattle.areas.specs.Areas.{sumD}
 use Rattle.limits.specs.Limits.{isCalm, inBounds}
 use Rattle.limits.proofs.BoundLaws.{each-bounded}
 use Rattle.bounds.specs.State.{nodeOf}
-use Rattle.editions.specs.Lines.{Edition, node2, endLayout, edition2, layoutAt, lineCount, lineOf}
+use Rattle.editions.specs.Lines.{Edition, node2, endLayout, edition2, layoutAt, lineCount, lineOf, editionOf}
 use Rattle.saves.specs.Save.{Saved, savedOf, stateValues, values2, saveText}
 use Rattle.editions.specs.Rows.{row23, row25}
-use Rattle.loads.specs.Load.{editionOf, lineIn, lineRows, clockIn, nodeIn, loadAnswer, stateIn}
+use Rattle.loads.specs.Load.{lineIn, lineRows, clockIn, nodeIn, loadAnswer, stateIn}
 use Rattle.loads.proofs.LoadLaws.{line-read, no-longer, node-read}
 
 -- ---- a float that is read in a range is of the pattern that it was read from: a NaN is in no range

@@ -13,7 +13,7 @@ use Rattle.quantities.specs.declared.Parameters.{Parameters}
 use Rattle.quantities.specs.declared.Node.{Node}
 use Rattle.frames.specs.Frames.{byteOf}
 use Rattle.frames.specs.Reading.{value, float}
-use Rattle.frames.specs.Texts.{startOf, lineAt, starts}
+use Rattle.frames.specs.Texts.{startOf, lineAt}
 use Rattle.faults.specs.Faults.{lineFault}
 use Rattle.surge.specs.declared.Clock.{Clock}
 use Rattle.mesh.specs.Lent.{Mesh, N, E}
@@ -22,12 +22,8 @@ use Rattle.surge.specs.Lent.{After, after}
 use Rattle.nodes.specs.Rows.{meshRows}
 use Rattle.bounds.specs.State.{row1State}
 use Rattle.limits.specs.Limits.{inBounds}
-use Rattle.editions.specs.Lines.{head2, Edition, edition1, edition2, layoutAt, nodeLine, lineCount}
+use Rattle.editions.specs.Lines.{head2, Edition, editionOf, layoutAt, nodeLine, lineCount}
 use Rattle.editions.specs.Rows.{row23, row25}
-
--- "A head starting 01 … is measured by that kind, any other by the new": the characters 0 and 1
-abbrev pub editionOf : List ℕ → Edition
-editionOf t = cond (starts 48 49 t) edition1 edition2
 
 -- ---- a text of this edition, against a mesh of n nodes and e triangles, the sum of its D, and parameters
 module _ (d : Edition) (n : ℕ) (t : List ℕ) where

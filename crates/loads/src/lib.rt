@@ -34,7 +34,7 @@ pub fn load(
             clock,
         };
     }
-    let d = loading::edition_of(text);
+    let d = editions::edition_of(text);
     let sum = areas::twice_areas(x, y, tri);
     let answer = loading::text_rows(d, n, tri.len() / 3, sum, p, h, text);
     if answer.number != 0 {

@@ -1,4 +1,5 @@
 // The lines of a save of either edition, read back: the rows of a load, the clock and the state that the lines hold.
+use editions::Edition;
 use frames::reading;
 use quantities::Node;
 use quantities::Parameters;
@@ -10,94 +11,11 @@ ghost use Prim.Native.Nat.{_+_, _*_, _<_, _≤_};
 ghost use lib.ListN.{length};
 ghost use Rattle.rows.specs.Scan.{scan};
 ghost use Rattle.bounds.specs.State.{stateRuns};
-ghost use Rattle.frames.specs.Texts.{due, startOf};
+ghost use Rattle.frames.specs.Texts.{startOf};
 ghost use Rattle.editions.specs.Lines.{edition1, edition2, layoutAt, nodeLine, lineCount};
-ghost use Rattle.loads.specs.Load.{editionOf, lineIn, lineRows, trailingRow, clockIn, nodeIn, row10In, rowsIn, stateIn};
-ghost use Rattle.loads.specs.Private.{linesOf, headWind, windIn, stored};
-
-// The editions of a save.
-pub(crate) enum Edition {
-    One,
-    Two,
-}
-
-// A text that starts with 01 is of edition 1, any other of edition 2.
-pub(crate) fn edition_of(text: &[u8]) -> Edition
-    ensures { λ r. ⌜ linesOf r ≡ editionOf (now (text .entry)) ⌝ }
-{
-    if reading::starts(text, b'0', b'1') {
-        Edition::One
-    } else {
-        Edition::Two
-    }
-}
-
-// A kind of line: its digits and its kind byte.
-struct LineKind {
-    digits: usize,
-    kind: u8,
-}
-
-// What is due at line j of edition 1: head, nodes, end.
-fn due_in_one(n: usize, j: usize) -> LineKind
-    ensures { λ r. ⌜ (r .digits ≡ due (layoutAt edition1 n) j) × (r .kind ≡ layoutAt edition1 n j .kind) × (r .digits ≤ 104) ⌝ }
-{
-    if j == 0 {
-        return LineKind {
-            digits: 56,
-            kind: 1,
-        };
-    }
-    if j <= n {
-        LineKind {
-            digits: 72,
-            kind: 2,
-        }
-    } else {
-        LineKind {
-            digits: 12,
-            kind: 3,
-        }
-    }
-}
-
-// And of edition 2: head, line 05, nodes, end.
-fn due_in_two(n: usize, j: usize) -> LineKind
-    ensures { λ r. ⌜ (r .digits ≡ due (layoutAt edition2 n) j) × (r .kind ≡ layoutAt edition2 n j .kind) × (r .digits ≤ 104) ⌝ }
-{
-    if j == 0 {
-        return LineKind {
-            digits: 24,
-            kind: 4,
-        };
-    }
-    if j == 1 {
-        return LineKind {
-            digits: 88,
-            kind: 5,
-        };
-    }
-    if j - 2 < n {
-        LineKind {
-            digits: 104,
-            kind: 6,
-        }
-    } else {
-        LineKind {
-            digits: 12,
-            kind: 3,
-        }
-    }
-}
-
-fn due(d: Edition, n: usize, j: usize) -> LineKind
-    ensures { λ r. ⌜ (r .digits ≡ due (layoutAt (linesOf d) n) j) × (r .kind ≡ layoutAt (linesOf d) n j .kind) × (r .digits ≤ 104) ⌝ }
-{
-    match d {
-        Edition::One => due_in_one(n, j),
-        Edition::Two => due_in_two(n, j),
-    }
-}
+ghost use Rattle.editions.specs.Editions.{linesOf};
+ghost use Rattle.loads.specs.Load.{lineIn, lineRows, trailingRow, clockIn, nodeIn, row10In, rowsIn, stateIn};
+ghost use Rattle.loads.specs.Private.{headWind, stored};
 
 // Where line j of edition 1 starts: past a head of 57 bytes and nodes of 73.
 fn start_in_one(n: usize, j: usize) -> usize
@@ -139,7 +57,7 @@ fn line_at(d: Edition, n: usize, text: &[u8], j: usize) -> &[u8]
     requires { ⌜ (n ≤ 4096) × (j < lineCount (linesOf d) n) ⌝ }
     ensures { λ r. ⌜ now r ≡ lineIn (linesOf d) n (now (text .entry)) j ⌝ }
 {
-    let count = due(d, n, j).digits + 1;
+    let count = editions::due(d, n, j).digits + 1;
     reading::part(text, start(d, n, j), count)
 }
 
@@ -157,7 +75,7 @@ fn line_row(
     ensures { λ r. ⌜ r ≡ lineRows (linesOf d) n (now (text .entry)) e sum p j ⌝ }
 {
     let line = line_at(d, n, text, j);
-    let its = due(d, n, j);
+    let its = editions::due(d, n, j);
     editions::line_row(line, its.digits, its.kind, n, e, sum, p, j)
 }
 
@@ -241,26 +159,13 @@ fn node_text(d: Edition, n: usize, text: &[u8], i: usize) -> &[u8]
     }
 }
 
-// The wind of a node, from the fields of its line: edition 1 has none, and every node has the head's.
-fn node_wind(d: Edition, held: Wind, values: [u64; 6]) -> Wind
-    ensures { λ r. ⌜ r ≡ windIn d held values ⌝ }
-{
-    match d {
-        Edition::One => held,
-        Edition::Two => Wind {
-            x: patterns::float_of(values[4]),
-            y: patterns::float_of(values[5]),
-        },
-    }
-}
-
 // Node i, as the lines hold it. The head's wind is read once for all nodes.
 fn node_at(d: Edition, n: usize, h: &[f64], text: &[u8], held: Wind, i: usize) -> Node
     requires { ⌜ (i < n) × (length (now h) ≡ n) × (n ≤ 4096) × (held ≡ headWind (linesOf d) n (now text)) ⌝ }
     ensures { λ r. ⌜ r ≡ nodeIn (linesOf d) n (now (text .entry)) (now (h .entry)) i ⌝ }
 {
     let values = reading::values(node_text(d, n, text, i));
-    let wind = node_wind(d, held, values);
+    let wind = editions::node_wind(d, held, values);
     Node {
         h: h[i],
         earlier: patterns::float_of(values[0]),

@@ -17,16 +17,8 @@ use Rattle.frames.specs.Texts.{due, startOf}
 use Rattle.frames.proofs.FrameLaws.{text-length}
 use Rattle.frames.proofs.TextLaws.{start-next}
 use Rattle.editions.specs.Lines.{Edition, Values, node1, node2, endLayout, edition1, edition2, layoutFrom, layoutAt, past, nodeLine, lineCount, valuesFrom, lineOf, saveLength}
+use Rattle.editions.proofs.LineLaws.{past-next, past-due}
 use Rattle.saves.specs.Save.{Saved, stateValues, stateValues1, values1, values2}
-
--- ---- which line is a node's, and which the last
-past-next : (ls : List Layout) (i : ℕ) → past ls (suc i) ≡ suc (past ls i)
-past-next [] i = refl
-past-next (l ∷ ls) i = ap suc (past-next ls i)
-
-pub past-due : (ls : List Layout) (node : Layout) (n i : ℕ) → layoutFrom ls node n (past ls i) ≡ cond (ltb i n) node endLayout
-past-due [] node n i = refl
-past-due (l ∷ ls) node n i = past-due ls node n i
 
 -- ---- where each line starts
 module _ (layout : ℕ → Layout) where

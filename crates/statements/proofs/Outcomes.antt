@@ -1,5 +1,6 @@
 -- Each public function's own contract has at most one outcome, and the calls ask nothing of their caller.
 use mathlib.Core.Path.{_≡_, refl, sym, ap, _∙_}
+use Rattle.editions.proofs.LineLaws.{lines-apart}
 use Rattle.lines.specs.Building.{Put, putOut}
 use Rattle.surge.specs.Lent.{After, after}
 use Rattle.passes.specs.Settle.{Settled, settled}
@@ -51,6 +52,9 @@ each-determined = record {
   frames·reading·part-determined = λ κs a x y v w p q. (same p q, refl);
   frames·reading·starts-determined = λ κs a x y v w p q. (same p q, refl);
   faults·fault-determined = λ κs a x y v w p q. (same p q, refl);
+  editions·edition-of-determined = λ κs a x y v w p q. (lines-apart x y (same p q), refl);
+  editions·due-determined = λ κs a x y v w p q. (λ i. record { digits = same (p .0) (q .0) i; kind = same (p .1) (q .1) i }, refl);
+  editions·node-wind-determined = λ κs a x y v w p q. (same p q, refl);
   editions·line-row-determined = λ κs a x y v w p q. (same p q, refl);
   lines·Line·begin-determined = λ κs a x y v w p q. (same p q, refl);
   lines·Line·append-determined = λ κs a x y v w p q. (same p q, refl);

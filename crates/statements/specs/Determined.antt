@@ -71,6 +71,12 @@ use Rattle.frames.proofs.reading.starts.Kinds as frames·reading·starts-kinds
 use Rattle.frames.proofs.reading.starts.Reads as frames·reading·starts-reads
 use Rattle.faults.proofs.fault.Kinds as faults·fault-kinds
 use Rattle.faults.proofs.fault.Reads as faults·fault-reads
+use Rattle.editions.proofs.edition_of.Kinds as editions·edition-of-kinds
+use Rattle.editions.proofs.edition_of.Reads as editions·edition-of-reads
+use Rattle.editions.proofs.due.Kinds as editions·due-kinds
+use Rattle.editions.proofs.due.Reads as editions·due-reads
+use Rattle.editions.proofs.node_wind.Kinds as editions·node-wind-kinds
+use Rattle.editions.proofs.node_wind.Reads as editions·node-wind-reads
 use Rattle.editions.proofs.line_row.Kinds as editions·line-row-kinds
 use Rattle.editions.proofs.line_row.Reads as editions·line-row-reads
 use Rattle.lines.proofs.Line.begin.Kinds as lines·Line·begin-kinds
@@ -165,6 +171,12 @@ use Rattle.forcings.proofs.read_forcing.Kinds as forcings·read-forcing-kinds
 use Rattle.forcings.proofs.read_forcing.Reads as forcings·read-forcing-reads
 use Rattle.saves.proofs.save.Kinds as saves·save-kinds
 use Rattle.saves.proofs.save.Reads as saves·save-reads
+use Rattle.editions.proofs.edition_of.Kinds as editions·edition-of-kinds
+use Rattle.editions.proofs.edition_of.Reads as editions·edition-of-reads
+use Rattle.editions.proofs.due.Kinds as editions·due-kinds
+use Rattle.editions.proofs.due.Reads as editions·due-reads
+use Rattle.editions.proofs.node_wind.Kinds as editions·node-wind-kinds
+use Rattle.editions.proofs.node_wind.Reads as editions·node-wind-reads
 use Rattle.editions.proofs.line_row.Kinds as editions·line-row-kinds
 use Rattle.editions.proofs.line_row.Reads as editions·line-row-reads
 use Rattle.loads.proofs.load.Kinds as loads·load-kinds
@@ -236,6 +248,9 @@ pub record EachDetermined : Type 0 where
   pub frames·reading·part-determined : DeterminedSeen frames·reading·part-kinds.ps frames·reading·part-kinds.r frames·reading·part-reads.Post (λ κs x. x .now)
   pub frames·reading·starts-determined : Determined frames·reading·starts-kinds.ps frames·reading·starts-kinds.r frames·reading·starts-reads.Post
   pub faults·fault-determined : Determined faults·fault-kinds.ps faults·fault-kinds.r faults·fault-reads.Post
+  pub editions·edition-of-determined : Determined editions·edition-of-kinds.ps editions·edition-of-kinds.r editions·edition-of-reads.Post
+  pub editions·due-determined : Determined editions·due-kinds.ps editions·due-kinds.r editions·due-reads.Post
+  pub editions·node-wind-determined : Determined editions·node-wind-kinds.ps editions·node-wind-kinds.r editions·node-wind-reads.Post
   pub editions·line-row-determined : Determined editions·line-row-kinds.ps editions·line-row-kinds.r editions·line-row-reads.Post
   pub lines·Line·begin-determined : Determined lines·Line·begin-kinds.ps lines·Line·begin-kinds.r lines·Line·begin-reads.Post
   pub lines·Line·append-determined : Determined lines·Line·append-kinds.ps lines·Line·append-kinds.r lines·Line·append-reads.Post

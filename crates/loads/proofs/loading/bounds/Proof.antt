@@ -5,7 +5,7 @@ use borrow.Author.Count.{below-none, below-more}
 use borrow.Author.Needs.{needs}
 use Rattle.rows.proofs.ScanLaws.{scan-none, scan-hit, same-number, other-number}
 use Rattle.loads.specs.Load.{row10In}
-use Rattle.loads.specs.Private.{linesOf}
+use Rattle.editions.specs.Editions.{linesOf}
 use Rattle.loads.proofs.loading.bounds.Statement.{statement}
 use Rattle.loads.proofs.loading.bounds.Tie as tie
 

@@ -5,7 +5,7 @@ use borrow.Author.Needs.{needs}
 use lib.ListN.{length}
 use Rattle.lists.proofs.RunLaws.{runs-length}
 use Rattle.bounds.specs.State.{stateRuns}
-use Rattle.loads.specs.Private.{linesOf}
+use Rattle.editions.specs.Editions.{linesOf}
 use Rattle.loads.proofs.NodeLaws.{filledTo, fill-none, fill-more, fill-all}
 use Rattle.loads.proofs.loading.fill.Statement.{statement}
 use Rattle.loads.proofs.loading.fill.Tie as tie

@@ -6,7 +6,7 @@ use borrow.Author.Needs.{needs}
 use Rattle.rows.proofs.ScanLaws.{scan-none, scan-hit, same-number, other-number}
 use Rattle.editions.specs.Lines.{lineCount}
 use Rattle.loads.specs.Load.{lineRows}
-use Rattle.loads.specs.Private.{linesOf}
+use Rattle.editions.specs.Editions.{linesOf}
 use Rattle.loads.proofs.loading.lines.Statement.{statement}
 use Rattle.loads.proofs.loading.lines.Tie as tie
 

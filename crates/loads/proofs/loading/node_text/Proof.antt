@@ -2,9 +2,9 @@ use mathlib.Core.Path.{sym, ap, _∙_}
 use borrow.Author.Needs.{needs}
 use Rattle.frames.specs.Texts.{startOf}
 use Rattle.editions.specs.Lines.{edition1, edition2, nodeLine}
-use Rattle.loads.specs.declared.loading.Edition.{Edition}
+use Rattle.editions.specs.declared.Edition.{Edition}
 use Rattle.loads.specs.Load.{lineIn}
-use Rattle.loads.specs.Private.{linesOf}
+use Rattle.editions.specs.Editions.{linesOf}
 use Rattle.loads.proofs.EditionLaws.{node-line}
 use Rattle.loads.proofs.loading.node_text.Statement.{statement}
 use Rattle.loads.proofs.loading.node_text.Tie as tie

@@ -1,8 +1,8 @@
 use mathlib.Core.Path.{sym, ap, _∙_}
 use mathlib.Core.Bool.{Bool, cond}
 use Rattle.editions.specs.Lines.{edition1, edition2}
-use Rattle.loads.proofs.loading.edition_of.Statement.{statement}
-use Rattle.loads.proofs.loading.edition_of.Tie as tie
+use Rattle.editions.proofs.edition_of.Statement.{statement}
+use Rattle.editions.proofs.edition_of.Tie as tie
 
 returns : tie.Need-returns
 returns c = ap (λ (b : Bool). cond b edition1 edition2) (sym (c .if1 .taken) ∙ c .before .starts .ensures)

@@ -3,11 +3,11 @@ use mathlib.Core.Path.{_≡_}
 use mathlib.Core.List.{List}
 use borrow.Author.Needs.{needs}
 use Rattle.quantities.specs.declared.Wind.{Wind}
-use Rattle.loads.specs.declared.loading.Edition.{Edition}
-use Rattle.loads.specs.declared.loading.Edition.the-variants.{One}
-use Rattle.loads.specs.Private.{windIn}
-use Rattle.loads.proofs.loading.node_wind.Statement.{statement}
-use Rattle.loads.proofs.loading.node_wind.Tie as tie
+use Rattle.editions.specs.declared.Edition.{Edition}
+use Rattle.editions.specs.declared.Edition.the-variants.{One}
+use Rattle.editions.specs.Editions.{windIn}
+use Rattle.editions.proofs.node_wind.Statement.{statement}
+use Rattle.editions.proofs.node_wind.Tie as tie
 
 -- in edition 1 the head's, whatever the node's line holds
 of-head : {d : Edition} → d ≡ One → (held : Wind) (values : List ℕ) → held ≡ windIn d held values

@@ -1,6 +1,6 @@
 use borrow.Author.Needs.{needs}
-use Rattle.loads.proofs.loading.due.Statement.{statement}
-use Rattle.loads.proofs.loading.due.Tie as tie
+use Rattle.editions.proofs.due.Statement.{statement}
+use Rattle.editions.proofs.due.Tie as tie
 
 pub due-spec : {M : Type 1} → statement M
 due-spec =
