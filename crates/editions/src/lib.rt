@@ -1,4 +1,4 @@
-// The lines of a save in either edition, as one description, and the rows of one line of them.
+// The lines of a save, in either edition: of which edition a text is, what is due at a line, and what is asked of one.
 use frames::reading;
 use quantities::Parameters;
 use quantities::Wind;

@@ -13,7 +13,6 @@ use Rattle.rows.specs.declared.Answer.{Answer}
 use Rattle.rows.specs.Numbers.{plus0}
 use Rattle.rows.specs.Scan.{row, _then_, scan}
 use Rattle.rows.proofs.ScanLaws.{then-first, then-rest, then-same, scan-same}
-use Rattle.lists.specs.Table.{table}
 use Rattle.lists.proofs.TableLaws.{getD-table}
 use Rattle.crossing.specs.Crossing.{signed}
 use Rattle.location.specs.declared.Points.{Points}

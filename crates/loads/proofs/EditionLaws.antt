@@ -1,15 +1,14 @@
 -- Which line of either edition is due where, and where it starts, by its number; and a node from the fields of its line, as the code reads it.
 use Prim.Native.Nat.{ℕ, suc, _+_, _-_, _*_, _<_, _≤_}
 use mathlib.Core.Path.{_≡_, refl, ap, _∙_}
-use mathlib.Core.List.{List, [], _∷_}
+use mathlib.Core.List.{List}
 use native.Mathlib.Omega.{arith}
-use borrow.Author.Tests.{lt-ltb, le-ltb}
 use lib.ListN.{length, getD, take, drop}
 use lib.Ieee.{Float, nan}
-use Rattle.frames.specs.Frames.{Layout, digitsOf}
+use Rattle.frames.specs.Frames.{digitsOf}
 use Rattle.frames.specs.Reading.{float, values}
 use Rattle.frames.specs.Texts.{startOf}
-use Rattle.editions.specs.Lines.{Edition, edition1, endLayout, layoutAt, past, nodeLine, lineCount}
+use Rattle.editions.specs.Lines.{Edition, edition1, layoutAt, nodeLine, lineCount}
 use Rattle.saves.proofs.LineLaws.{start-node, start-last}
 use Rattle.editions.specs.declared.Edition as code
 use Rattle.editions.specs.declared.Edition.the-variants.{One, Two}

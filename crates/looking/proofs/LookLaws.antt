@@ -14,7 +14,7 @@ use Rattle.rows.specs.declared.Answer.{Answer}
 use Rattle.rows.specs.Numbers.{plus0}
 use Rattle.rows.specs.Scan.{_then_}
 use Rattle.rows.proofs.ScanLaws.{then-first, then-rest, then-same, stops}
-use Rattle.lists.specs.Table.{table, copied}
+use Rattle.lists.specs.Table.{copied}
 use Rattle.lists.proofs.TableLaws.{length-table, getD-table}
 use Rattle.mesh.specs.Lent.{N, E}
 use Rattle.mesh.specs.Rows.{sizeRows}

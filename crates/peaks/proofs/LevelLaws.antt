@@ -1,7 +1,7 @@
 -- The elevation of a gauge is a mean with whole weights, rounded at each of its six operations. It is not beyond 30 in size where the three elevations are not.
 -- A whole number b below 2^53 is a float, and rounding keeps the order, so that what is at most b in size is so when it is rounded too.
 use Prim.Native.Nat.{ℕ, suc, _+_, _-_, _*_, _/_, _^_, _≤_, _<_, zero-le}
-use mathlib.Core.Path.{_≡_, sym, ap, subst, _∙_}
+use mathlib.Core.Path.{_≡_, sym, ap, _∙_}
 use mathlib.Core.Bool.{Bool, true, false, not, cond, Bool·beq}
 use native.Mathlib.Nat.{le-refl, le-trans, le-of-eq, lt-of-le-of-lt, lt-of-lt-of-le, zero-lt-suc, mul-pos, mul-assoc, mul-one, mul-le-mul, mul-le-mul-right, mul-lt-mul-of-pos-right, le-of-mul-le-mul-right, mul-mul-mul-comm, div-one, mod-one, div-lt-iff-lt-mul}
 use native.Mathlib.Omega.{arith}

@@ -9,7 +9,7 @@ use mathlib.Core.Option.{some, Option·none-ne-some, Option·some-injective}
 use lib.ListN.{length, getElem?, length-append, length-map}
 use lib.Ieee.{le}
 use Rattle.rows.specs.Numbers.{inSize}
-use Rattle.peaks.specs.Peaks.{Mark, unmarked, Reading, marked, noted, FirstHighest, Highest, Board, Call, add, update, Gauge, reading, readings, Kept, begun, withState, after, kept, Says, Peaks, Added, Updated, Laws}
+use Rattle.peaks.specs.Peaks.{Mark, unmarked, Reading, marked, noted, FirstHighest, Highest, Board, Call, add, update, Gauge, reading, readings, Kept, begun, withState, after, kept, Peaks, Added, Updated, Laws}
 use Rattle.peaks.proofs.OrderLaws.{le-reflexive, le-transitive, le-total}
 
 -- ---- one gauge: a reading more at the end

@@ -16,7 +16,7 @@ use Rattle.frames.specs.Private.{widthsOf}
 use Rattle.frames.specs.Texts.{due, startOf}
 use Rattle.frames.proofs.FrameLaws.{text-length}
 use Rattle.frames.proofs.TextLaws.{start-next}
-use Rattle.editions.specs.Lines.{Edition, Values, node1, node2, endLayout, edition1, edition2, layoutFrom, layoutAt, past, nodeLine, lineCount, valuesFrom, lineOf, saveLength}
+use Rattle.editions.specs.Lines.{Edition, Values, node1, node2, endLayout, edition1, edition2, layoutAt, nodeLine, lineCount, valuesFrom, lineOf, saveLength}
 use Rattle.editions.proofs.LineLaws.{past-next, past-due}
 use Rattle.saves.specs.Save.{Saved, stateValues, stateValues1, values1, values2}
 

@@ -7,7 +7,6 @@ use Rattle.rows.specs.Scan.{row, _then_}
 use Rattle.rows.specs.declared.Answer.{Answer}
 use Rattle.quantities.specs.declared.Parameters.{Parameters}
 use Rattle.location.specs.declared.seeking.Point.{Point}
-use Rattle.keeping.specs.declared.Given.{Given}
 use Rattle.keeping.specs.Record.{countIn, row43, row41}
 use Rattle.keeping.specs.Keeping as Keeping
 use Rattle.keeping.specs.Keeping.{addOut, addAnswer}

@@ -12,7 +12,7 @@ use Rattle.looking.specs.declared.Sight.{Sight}
 use Rattle.looking.specs.Lent.{Lent, lent}
 use Rattle.looking.specs.Looking.{sightOf}
 use Rattle.looking.proofs.LookLaws.{sight-then, sight-found}
-use Rattle.gauges.specs.Calls.{parameters, row40, measured, elevationAnswer, elevationOf}
+use Rattle.gauges.specs.Calls.{parameters, row40, measured, elevationAnswer}
 use Rattle.gauges.proofs.CallLaws.{elevation-refused, elevation-accepted}
 use Rattle.gauges.proofs.gauge_elevation.Statement.{statement}
 use Rattle.gauges.proofs.gauge_elevation.Tie as tie

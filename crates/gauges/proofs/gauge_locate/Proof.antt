@@ -12,7 +12,7 @@ use Rattle.looking.specs.declared.Sight.{Sight}
 use Rattle.looking.specs.Lent.{Lent, lent}
 use Rattle.looking.specs.Looking.{sightOf}
 use Rattle.looking.proofs.LookLaws.{sight-then, sight-found}
-use Rattle.gauges.specs.Calls.{parameters, point, row40, located, locateAnswer, locateOf}
+use Rattle.gauges.specs.Calls.{parameters, point, row40, located, locateAnswer}
 use Rattle.gauges.proofs.CallLaws.{locate-refused, locate-accepted}
 use Rattle.gauges.proofs.gauge_locate.Statement.{statement}
 use Rattle.gauges.proofs.gauge_locate.Tie as tie

@@ -1,9 +1,8 @@
-use mathlib.Core.Path.{_≡_, ap, _∙_}
+use mathlib.Core.Path.{ap, _∙_}
 use mathlib.Core.Logic.{⊎-elim}
 use lib.Ieee.{ofBits}
 use Rattle.rows.specs.declared.Answer.{Answer}
-use Rattle.keeping.specs.declared.Mark.{Mark}
-use Rattle.gauges.specs.Calls.{peaked, mark}
+use Rattle.gauges.specs.Calls.{peaked}
 use Rattle.gauges.proofs.CallLaws.{peak-refused, peak-accepted}
 use Rattle.gauges.proofs.gauge_peak.Statement.{statement}
 use Rattle.gauges.proofs.gauge_peak.Tie as tie

@@ -1,5 +1,4 @@
 use mathlib.Core.Path.{_≡_, sym, ap, _∙_}
-use mathlib.Core.Bool.{Bool}
 use borrow.Author.Needs.{needs}
 use Rattle.keeping.specs.declared.Mark.{Mark}
 use Rattle.keeping.specs.Record.{markIn, keeps}

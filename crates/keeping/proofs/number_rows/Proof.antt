@@ -1,4 +1,3 @@
-use borrow.Author.Needs.{needs}
 use Rattle.keeping.specs.Record.{row42}
 use Rattle.keeping.specs.Keeping.{numberRows}
 use Rattle.keeping.proofs.number_rows.Statement.{statement}
