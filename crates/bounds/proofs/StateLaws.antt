@@ -2,11 +2,14 @@
 use Prim.Native.Nat.{ℕ, _*_, _<_}
 use mathlib.Core.Path.{_≡_, refl, ap, _∙_}
 use mathlib.Core.Bool.{true}
-use mathlib.Core.List.{List}
+use mathlib.Core.List.{List, [], _∷_}
 use borrow.Author.Tests.{eqb-true, eq-eqb}
-use lib.ListN.{length}
-use lib.Ieee.{Float}
+use lib.Dec.{lit<}
+use lib.ListN.{length, getD}
+use lib.Ieee.{Float, nan}
 use Rattle.rows.specs.declared.Answer.{Answer}
+use Rattle.lists.specs.Runs.{runsOf}
+use Rattle.lists.proofs.RunLaws.{run-read}
 use Rattle.rows.specs.Scan.{accepted, _then_}
 use Rattle.rows.proofs.ScanLaws.{row-holds, row-passed, then-next, then-first, then-rest, scan-none, scan-clean}
 use Rattle.quantities.specs.declared.Parameters.{Parameters}
@@ -51,3 +54,18 @@ in-bounds m p state ok long h =
     let fits : (accepted then row1State m state) ≡ accepted = then-next accepted _ refl ∙ row-holds 1 0 (eq-eqb _ _ long) in
     ap (λ (a : Answer). a .number)
     (then-next _ _ (rw fits ok) ∙ scan-none _ (N m) (λ i l. ap (λ (a : Answer). a .number) (row-holds 10 i (h i l))))
+
+-- node i of a state of six runs
+pub six-runs : (n : ℕ) (h : List Float) (a b c d e f : ℕ → Float) (i : ℕ) → i < n
+    → nodeOf n h (runsOf n (a ∷ b ∷ c ∷ d ∷ e ∷ f ∷ [])) i ≡ record { h = getD h i nan; earlier = a i; z = b i; u = c i; v = d i; wx = e i; wy = f i }
+six-runs n h a b c d e f i l =
+    let fs = a ∷ b ∷ c ∷ d ∷ e ∷ f ∷ [] in
+    λ j. record {
+      h = getD h i nan;
+      earlier = run-read n fs 0 i nan (lit< tt) l j;
+      z = run-read n fs 1 i nan (lit< tt) l j;
+      u = run-read n fs 2 i nan (lit< tt) l j;
+      v = run-read n fs 3 i nan (lit< tt) l j;
+      wx = run-read n fs 4 i nan (lit< tt) l j;
+      wy = run-read n fs 5 i nan (lit< tt) l j;
+    }

@@ -30,7 +30,7 @@ use Rattle.passes.specs.Row13.{riseRows, flowRowsBy, row13By, row13}
 use Rattle.passes.specs.Settle.{Rooms, row1Rooms}
 use Rattle.surge.specs.Lent.{Run, run, advanced}
 use Rattle.surge.specs.Step.{givenOf, advance, stepRows, stepsTo, stepOf}
-use Rattle.surge.proofs.NextLaws.{rise-passed}
+use Rattle.passes.proofs.NextLaws.{rise-passed}
 use Rattle.limits.proofs.BoundLaws.{each-bounded}
 use Rattle.demands.specs.Friction.{earlierM, earlierFlow, earlierStep, SameAtZeroFriction}
 

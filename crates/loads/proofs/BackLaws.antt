@@ -22,8 +22,8 @@ use Rattle.frames.proofs.FrameLaws.{text-length}
 use Rattle.frames.proofs.TextLaws.{line-back}
 use Rattle.faults.specs.Faults.{fault, lineFault}
 use Rattle.faults.proofs.FaultLaws.{line-fine}
-use Rattle.surge.proofs.NextLaws.{six-runs}
 use Rattle.bounds.specs.State.{nodeOf}
+use Rattle.bounds.proofs.StateLaws.{six-runs}
 use Rattle.editions.specs.Lines.{Edition, Values, run2, node1, node2, endLayout, edition1, edition2, layoutAt, lineCount, lineOf, textOf, editionOf}
 use Rattle.saves.specs.Save.{Saved, runValues, stateValues, stateValues1, values1, values2, saveText, saveText1, withWind}
 use Rattle.saves.proofs.LineLaws.{Fitting, all-laid, line-long, fit1, fit2}

@@ -20,8 +20,7 @@ use Rattle.rows.specs.Scan.{accepted}
 use Rattle.lists.proofs.RunLaws.{runs-length}
 use Rattle.mesh.proofs.ShapedLaws.{shaped-asked}
 use Rattle.nodes.proofs.PartLaws.{mesh-parts, mesh-asked}
-use Rattle.bounds.proofs.StateLaws.{long-state, in-bounds}
-use Rattle.surge.proofs.NextLaws.{six-runs}
+use Rattle.bounds.proofs.StateLaws.{six-runs, long-state, in-bounds}
 use Rattle.areas.specs.Areas.{sumD}
 use Rattle.frames.specs.Texts.{startOf}
 use Rattle.editions.specs.Lines.{layoutAt, lineCount, editionOf}

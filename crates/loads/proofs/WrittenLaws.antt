@@ -23,12 +23,12 @@ use Rattle.faults.proofs.SpellingLaws.{fault-written}
 use Rattle.quantities.specs.declared.Parameters.{Parameters}
 use Rattle.quantities.specs.declared.Node.{Node}
 use Rattle.surge.specs.declared.Clock.{Clock}
-use Rattle.surge.proofs.NextLaws.{six-runs}
 use Rattle.mesh.specs.Lent.{Mesh, N, E}
 use Rattle.areas.specs.Areas.{sumD}
 use Rattle.limits.specs.Limits.{isCalm, inBounds}
 use Rattle.limits.proofs.BoundLaws.{each-bounded}
 use Rattle.bounds.specs.State.{nodeOf}
+use Rattle.bounds.proofs.StateLaws.{six-runs}
 use Rattle.editions.specs.Lines.{Edition, node2, endLayout, edition2, layoutAt, lineCount, lineOf, editionOf}
 use Rattle.saves.specs.Save.{Saved, savedOf, stateValues, values2, saveText}
 use Rattle.editions.specs.Rows.{row23, row25}

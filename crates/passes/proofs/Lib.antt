@@ -1,2 +1,3 @@
 pub mod PassLaws
 pub mod SettleLaws
+pub mod NextLaws

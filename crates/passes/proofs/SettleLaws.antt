@@ -22,7 +22,7 @@ use Rattle.bounds.specs.Forcing.{windRuns, elevationOf, windsOf, forcedRows}
 use Rattle.bounds.proofs.ForcingLaws.{AcceptedForced, accepted-forced}
 use Rattle.passes.specs.Equations.{Given, given, count, rise, U′, V′, nextState}
 use Rattle.passes.specs.Row13.{row13}
-use Rattle.passes.specs.Settle.{Rooms, workRuns, row1Rooms, settled, settlesTo, settleOf}
+use Rattle.passes.specs.Settle.{Rooms, workRuns, row1RoomsOf, row1Rooms, settled, settlesTo, settleOf}
 use Rattle.passes.specs.Private.{Fits, zero, advected, clearRoom, flowRoom}
 
 -- a cleared work room, as runs
@@ -64,6 +64,25 @@ next-state g ew en =
     ∙ run-same n (z ∷ rise g ∷ zero ∷ inRun n 2 r ∷ x ∷ y ∷ []) 2 (inRun n 1 r) (U′ g) (read 1 (lit< tt))
     ∙ run-same n (z ∷ rise g ∷ U′ g ∷ zero ∷ x ∷ y ∷ []) 3 (inRun n 2 r) (V′ g) (read 2 (lit< tt))
 
+-- ---- row 1 of the rooms
+pub record RoomLengths (runs : ℕ) (r : Rooms) (n : ℕ) : Type 0 where
+  pub next : length (r .next) ≡ stateRuns * n
+  pub work : length (r .work) ≡ runs * n
+  pub sums : length (r .sums) ≡ n
+
+pub room-lengths : (runs : ℕ) (r : Rooms) (n : ℕ) → row1RoomsOf runs r n .number ≡ 0 → RoomLengths runs r n
+room-lengths runs r n e = record {
+  next = eqb-true _ _ (both-left _ (isRuns (length (r .work)) runs n) first-two);
+  work = eqb-true _ _ (both-right (isRuns (length (r .next)) stateRuns n) _ first-two);
+  sums = eqb-true _ _ (both-right (isRuns (length (r .next)) stateRuns n && isRuns (length (r .work)) runs n) _ all-three) ∙ one-mul n;
+}
+  where
+    all-three : (isRuns (length (r .next)) stateRuns n && isRuns (length (r .work)) runs n && isRuns (length (r .sums)) 1 n) ≡ true
+    all-three = row-passed _ 0 0 e
+
+    first-two : (isRuns (length (r .next)) stateRuns n && isRuns (length (r .work)) runs n) ≡ true
+    first-two = both-left _ (isRuns (length (r .sums)) 1 n) all-three
+
 -- ---- the outcomes
 module _ (m : Mesh) (p : Parameters) (state f : List Float) (also : Answer) (r : Rooms) where
   abbrev pub asked : Answer
@@ -88,22 +107,17 @@ module _ (m : Mesh) (p : Parameters) (state f : List Float) (also : Answer) (r :
     pub fits : (winds : List Float) → Fits (given m p state (elevationOf f) winds)
     fits winds = record { shape = all .run .shape; state = all .run .long; setting = refl }
 
-    all-three : (isRuns (length (r .next)) stateRuns (N m) && isRuns (length (r .work)) workRuns (N m) && isRuns (length (r .sums)) 1 (N m)) ≡ true
-    all-three = row-passed _ 0 0 (all .others)
-
-    first-two : (isRuns (length (r .next)) stateRuns (N m) && isRuns (length (r .work)) workRuns (N m)) ≡ true
-    first-two = both-left _ (isRuns (length (r .sums)) 1 (N m)) all-three
+    lengths : RoomLengths workRuns r (N m)
+    lengths = room-lengths workRuns r (N m) (all .others)
 
     pub next-long : length (r .next) ≡ stateRuns * N m
-    next-long = eqb-true _ _ (both-left _ (isRuns (length (r .work)) workRuns (N m)) first-two)
+    next-long = lengths .next
 
     pub work-long : length (r .work) ≡ workRuns * N m
-    work-long = eqb-true _ _ (both-right (isRuns (length (r .next)) stateRuns (N m)) _ first-two)
+    work-long = lengths .work
 
     pub sums-long : length (r .sums) ≡ N m
-    sums-long =
-        eqb-true _ _ (both-right (isRuns (length (r .next)) stateRuns (N m) && isRuns (length (r .work)) workRuns (N m)) _ all-three)
-        ∙ one-mul (N m)
+    sums-long = lengths .sums
 
     -- worked out: what is left is zero but for the next state
     pub worked : {winds : List Float} {a : Answer} {next work : List Float} {sums : List ℕ} → winds ≡ windsOf f

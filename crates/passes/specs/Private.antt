@@ -8,7 +8,7 @@ use lib.Ieee.{Float, nan}
 use Rattle.rows.specs.Numbers.{plus0}
 use Rattle.lists.specs.Runs.{inRun, runsOf}
 use Rattle.lists.specs.Gather.{Three, alike}
-use Rattle.lists.specs.Private.{past, spread}
+use Rattle.lists.specs.Private.{withRun, past, spread}
 use Rattle.quantities.specs.declared.Sides.{Sides}
 use Rattle.quantities.specs.Operations.{_⊕_, lessIf}
 use Rattle.triangle.specs.declared.Advection.{Advection}
@@ -50,6 +50,11 @@ module _ (g : Given) where
 
   abbrev pub flowRoom : List Float
   flowRoom = runsOf (count g) (rise g ∷ U′ g ∷ V′ g ∷ advected)
+
+-- ---- the next state, where the runs past the first are written: z', U' and V' of the work room, and the new winds
+abbrev pub withNew : ℕ → List Float → List Float → List Float → List Float
+withNew n work winds next =
+    withRun n 5 (inRun n 1 winds) (withRun n 4 (inRun n 0 winds) (withRun n 3 (inRun n 2 work) (withRun n 2 (inRun n 1 work) (withRun n 1 (inRun n 0 work) next))))
 
 -- ---- what a triangle with these corners and sides adds to Px and to Py, with z in the state and z' in the work room
 abbrev pub bothOf : ℕ → List Float → List Float → ℕ → Float

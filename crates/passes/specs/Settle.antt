@@ -29,9 +29,12 @@ lentRooms next work sums = record { next = next; work = work; sums = sums }
 abbrev pub workRuns : ℕ
 workRuns = 5
 
--- | 1 | … a slice of another length |: of these rooms
+-- | 1 | … a slice of another length |: of these rooms, with so many runs of work room
+abbrev pub row1RoomsOf : ℕ → Rooms → ℕ → Answer
+row1RoomsOf runs r n = row (isRuns (length (r .next)) stateRuns n && isRuns (length (r .work)) runs n && isRuns (length (r .sums)) 1 n) 1 0
+
 abbrev pub row1Rooms : Rooms → ℕ → Answer
-row1Rooms r n = row (isRuns (length (r .next)) stateRuns n && isRuns (length (r .work)) workRuns n && isRuns (length (r .sums)) 1 n) 1 0
+row1Rooms = row1RoomsOf workRuns
 
 -- "all zero after an accepted step or a 13"
 abbrev pub cleared : List Float → ℕ → Rooms

@@ -4,9 +4,7 @@ use mathlib.Core.List.{List}
 use native.Mathlib.Omega.{arith}
 use lib.ListN.{length, take}
 use lib.Ieee.{Float}
-use mathlib.Core.Bool.{_&&_}
 use Rattle.rows.specs.declared.Answer.{Answer}
-use Rattle.rows.specs.Scan.{row}
 use Rattle.rows.proofs.ScanLaws.{same-number}
 use Rattle.mesh.specs.Lent.{Mesh, mesh, N}
 use Rattle.bounds.specs.Forcing.{windRuns, windsOf, forcedRows}
@@ -17,7 +15,7 @@ use Rattle.passes.proofs.settle.Statement.{statement}
 use Rattle.passes.proofs.settle.Tie as tie
 
 abbrev start : tie.After-forced-rows → tie.Start
-start c = c .before .before .before .before .before .before .before .before .before .before .before .before .before
+start c = c .before .before .before .before .before .before .before .before .before .before
 
 abbrev net : tie.Start → Mesh
 net s = let a = s .args in mesh (a .x .now) (a .y .now) (a .tri .now) (a .h .now) (a .kind .now)
@@ -32,9 +30,7 @@ answered : (c : tie.After-forced-rows) → c .forced-rows .result ≡ rowsOf (st
 answered c =
     let s = start c in
     let a = s .args in
-    let t = c .before in
-    let rooms = t .tested .ensures ∙ (λ i. row (t .before .before .before .is-runs .ensures i && t .before .before .is-runs2 .ensures i && t .before .is-runs3 .ensures i) 1 0) in
-    c .forced-rows .ensures ∙ ap (λ (q : Answer). forcedRows q (net s) (a .p) (a .state .now) (a .also) (a .f .now)) rooms
+    c .forced-rows .ensures ∙ ap (λ (q : Answer). forcedRows q (net s) (a .p) (a .state .now) (a .also) (a .f .now)) (c .before .rooms-row .ensures)
 
 passed : (c : tie.Else1) → rowsOf (start (c .before .before)) .number ≡ 0
 passed c = same-number (answered (c .before .before)) (c .if1 .left)
@@ -74,7 +70,7 @@ returns-2 c =
 pub settle-spec : {M : Type 1} → statement M
 settle-spec =
     tie.close
-    (tie.spec (λ c κs. tt) (λ c κs. tt) (λ c κs. tt) (λ c κs. tt) (λ c κs. tt)
+    (tie.spec (λ c κs. tt) (λ c κs. tt)
     (λ c. let s = start (c .before .before) in stopped (net s) (s .args .p) (s .args .state .now) (s .args .f .now) (s .args .also) (lent s) (answered (c .before .before)) (c .if1 .taken))
     (λ c. omega (arith, long (c .before .before .before .before))) (λ c. omega (arith, long (c .before .before .before .before)))
     (λ c. omega (arith, long (c .before .before .before .before))) (λ c. omega (arith, long (c .before .before .before .before))) work-out-requires (λ c. c .before .before .before .before .before .before .work-out .kept .0) (λ c. c .before .before .before .before .before .before .work-out .kept .1 .0) (λ c. c .before .before .before .before .before .before .work-out .kept .1 .1 .0) returns-2)

@@ -9,8 +9,8 @@ use Rattle.lists.specs.Table.{table, zeros}
 use Rattle.mesh.specs.Lent.{mesh}
 use Rattle.passes.specs.Equations.{Given, given, nextState}
 use Rattle.passes.proofs.SettleLaws.{next-state}
-use Rattle.passes.proofs.work_out.Statement.{statement}
-use Rattle.passes.proofs.work_out.Tie as tie
+use Rattle.passes.proofs.working.work_out.Statement.{statement}
+use Rattle.passes.proofs.working.work_out.Tie as tie
 
 abbrev its : tie.Start → Given
 its s = let a = s .args in given (mesh (a .x .now) (a .y .now) (a .tri .now) (a .h .now) (a .kind .now)) (a .p) (a .state .now) (a .elevation) (a .winds .now)

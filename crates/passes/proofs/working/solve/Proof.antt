@@ -3,8 +3,8 @@ use Rattle.rows.proofs.ScanLaws.{same-number, stops, goes}
 use Rattle.mesh.specs.Lent.{mesh}
 use Rattle.passes.specs.Equations.{Given, given}
 use Rattle.passes.specs.Row13.{row13}
-use Rattle.passes.proofs.solve.Statement.{statement}
-use Rattle.passes.proofs.solve.Tie as tie
+use Rattle.passes.proofs.working.solve.Statement.{statement}
+use Rattle.passes.proofs.working.solve.Tie as tie
 
 abbrev its : tie.Start → Given
 its s = let a = s .args in given (mesh (a .x .now) (a .y .now) (a .tri .now) (a .h .now) (a .kind .now)) (a .p) (a .state .now) (a .elevation) (a .winds .now)

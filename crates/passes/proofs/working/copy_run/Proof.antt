@@ -1,8 +1,8 @@
 use borrow.Author.Needs.{needs}
 use lib.Ieee.{nan}
 use Rattle.lists.proofs.RunLaws.{run-copied}
-use Rattle.passes.proofs.copy_run.Statement.{statement}
-use Rattle.passes.proofs.copy_run.Tie as tie
+use Rattle.passes.proofs.working.copy_run.Statement.{statement}
+use Rattle.passes.proofs.working.copy_run.Tie as tie
 
 returns : tie.Need-returns
 returns c =
