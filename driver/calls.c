@@ -31,6 +31,7 @@ int script_begin(struct script *s, FILE *out)
         [WORK] = {"work", FLOAT},
         [SUMS] = {"sums", UNSIGNED_64},
         [FORCING] = {"forcing", FLOAT},
+        [FORCINGS] = {"forcings", FLOAT},
         [TEXT] = {"text", BYTE},
         [LINES] = {"lines", BYTE},
         [RECORD] = {"record", BYTE},
@@ -86,6 +87,18 @@ void call_step(struct script *s)
                                  MESH(s), PARAMETERS(s));
     print_answer(s->out, "step", number, place, value);
     print_clock(s);
+}
+
+void call_step_all(struct script *s)
+{
+    uint32_t accepted;
+    size_t place;
+    double value;
+    uint32_t number = surge_step_all(LENT(s, NEXT), LENT(s, WORK), LENT(s, SUMS), &place, &value, CLOCK(s), &accepted, LENT(s, STATE),
+                                     LENT(s, FORCINGS), MESH(s), PARAMETERS(s));
+    print_answer(s->out, "stepall", number, place, value);
+    print_clock(s);
+    fprintf(s->out, "accepted %" PRIu32 "\n", accepted);
 }
 
 void call_save(struct script *s)

@@ -8,7 +8,7 @@
 #include <stdio.h>
 
 enum slice_name {
-    X, Y, TRI, H, KIND, STATE, NEXT, WORK, SUMS, FORCING, TEXT, LINES,
+    X, Y, TRI, H, KIND, STATE, NEXT, WORK, SUMS, FORCING, FORCINGS, TEXT, LINES,
     RECORD, XBYTES, YBYTES, TRIBYTES, HBYTES, KINDBYTES, STATEBYTES,
     SLICES
 };
@@ -30,6 +30,7 @@ void script_end(struct script *s);
 /* Each makes its call and prints what comes back. */
 void call_open(struct script *s);
 void call_step(struct script *s);
+void call_step_all(struct script *s);
 void call_save(struct script *s);
 void call_load(struct script *s);
 void call_read(struct script *s, uint32_t expected);

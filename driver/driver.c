@@ -158,6 +158,15 @@ static enum outcome swap(struct script *s, struct words *w)
     return DONE;
 }
 
+/* The forcing goes to the end of the list. */
+static enum outcome queue(struct script *s, struct words *w)
+{
+    size_t count;
+    if (!take_count(w, &count) || !is_last(w))
+        return BAD;
+    return slice_add_all(&s->slices[FORCINGS], &s->slices[FORCING], count) ? DONE : NO_MEMORY;
+}
+
 /* The mesh and the state as the bytes that the gauges' calls take. */
 static enum outcome pack(struct script *s, struct words *w)
 {
@@ -209,6 +218,11 @@ static enum outcome command_open(struct script *s, struct words *w)
 static enum outcome command_step(struct script *s, struct words *w)
 {
     return call(s, w, call_step);
+}
+
+static enum outcome command_step_all(struct script *s, struct words *w)
+{
+    return call(s, w, call_step_all);
 }
 
 static enum outcome command_save(struct script *s, struct words *w)
@@ -335,9 +349,11 @@ static enum outcome command(struct script *s, const char *line, size_t length)
         {"parameters", parameters},
         {"clock", clock_is},
         {"swap", swap},
+        {"queue", queue},
         {"pack", pack},
         {"open", command_open},
         {"step", command_step},
+        {"stepall", command_step_all},
         {"save", command_save},
         {"load", command_load},
         {"read", command_read},

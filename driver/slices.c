@@ -77,6 +77,19 @@ int slice_add(struct slice *s, union element e, size_t times)
     return 1;
 }
 
+/* The times are bounded by what memory holds, and where there is nothing to add they are not gone through. */
+int slice_add_all(struct slice *to, const struct slice *from, size_t times)
+{
+    size_t count = from->count, end;
+    if (count == 0)
+        return 1;
+    if (times > (SIZE_MAX - to->count) / count || !grow(to, to->count + count * times))
+        return 0;
+    for (end = to->count + count * times; to->count < end; to->count += count)
+        memcpy(place(to, to->count), from->at, count * width(from->form));
+    return 1;
+}
+
 void slice_put(struct slice *s, size_t at, union element e)
 {
     if (at < s->count)

@@ -38,6 +38,9 @@ int element_of(struct word w, enum form form, union element *to);
 /* Adds an element so many times: 0 where there is no memory for it. */
 int slice_add(struct slice *s, union element e, size_t times);
 
+/* Adds the elements of another slice of the same form so many times: 0 where there is no memory for them. */
+int slice_add_all(struct slice *to, const struct slice *from, size_t times);
+
 /* Nothing happens where there is no such element. */
 void slice_put(struct slice *s, size_t at, union element e);
 void slice_keep(struct slice *s, size_t count);

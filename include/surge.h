@@ -1,27 +1,27 @@
 /*
  * The storm-surge run of document 01, for C.
  *
- * Six calls: surge_open, surge_step, surge_save, surge_load, surge_read_forcing, and surge_read_grid of document 02's #101. They
- * are the product's calls of the same names, exported from the proved crate `capi`; `rt staticlib capi` makes the archive
- * target/staticlib/libcapi.a.
+ * Seven calls: surge_open, surge_step, surge_step_all of document 02's #107, surge_save, surge_load, surge_read_forcing, and
+ * surge_read_grid of #101. They are the product's calls of the same names, exported from the proved crate `capi`; `rt staticlib
+ * capi` makes the archive target/staticlib/libcapi.a.
  *
  * Memory. Everything that a call reads or writes is the caller's, lent for the time of the call. A call keeps no pointer,
  * allocates nothing, and holds nothing from one call to the next: a run is what the caller holds. There is no global state.
  *
- * Slices. A slice is two arguments, a pointer to its first element and the number of its elements. Any number may be passed: a
- * slice of numbers that has not the length named below is refused with 1 (a room for a grid with 33), a text as its call
- * says, and only elements that are there are read or written. The pointer is aligned for its type and never NULL, even
- * where the number is 0, since the callee may take that for granted.
+ * Slices. A slice is two arguments, a pointer to its first element and the number of its elements. Any number may be passed:
+ * a slice of numbers that has not the length named below is refused with 1 (a list that is too long with 14, a room for a
+ * grid with 33), a text as its call says, and only elements that are there are read or written. The pointer is aligned for
+ * its type and never NULL, even where the number is 0, since the callee may take that for granted.
  *
  * Overlap. Memory that a call may write (arguments that are not `const`) overlaps no other argument. Arguments that are only
  * read may overlap each other.
  *
  * Any contents may be lent: NaN, infinities, any bytes. A NaN is outside every range. After a refusal slices, rooms and clock
- * are left as found, but for the work room after a 13. The proofs know one NaN: where what was lent held a NaN, that the same
- * one, sign and payload, is still there is tested and not proved. Which NaN comes back as the value of a 13, or in a forcing
- * room of a text that holds one, means nothing.
+ * are left as found, but for the work room after a 13; a list call that has accepted a step says below what it leaves. The
+ * proofs know one NaN: where what was lent held a NaN, that the same one, sign and payload, is still there is tested and not
+ * proved. Which NaN comes back as the value of a 13, or in a forcing room of a text that holds one, means nothing.
  *
- * Answers. The result is the number of the refusal table of document 01, 25 and from 30 on of document 02, and 0 where the
+ * Answers. The result is the number of the refusal table of document 01, 14, 25 and from 30 on of document 02, and 0 where the
  * call was accepted. Every call, refused or not, writes `*place` and `*value`: which triangle, node, parameter or line was
  * refused, and the offending value, which is +0 except after a 13.
  *
@@ -42,6 +42,7 @@
  *         node i beyond 0.1                                     place: 1; 2+i
  *     13  a new elevation beyond 30, depth and new elevation
  *         below 0.1, or a new U or V beyond 20                  place: node; value: z', H', U' or V'
+ *     14  the list is above 4,096 forcings of 1+2N numbers
  *     20  a line of wrong length, a wrong digit, no line feed,
  *         bytes after the end                                   place: line
  *     21  the check byte                                        place: line
@@ -121,6 +122,44 @@ uint32_t surge_step(
     uint32_t *step,
     const double *state, size_t state_length,
     const double *forcing, size_t forcing_length,
+    const int32_t *x, size_t x_length,
+    const int32_t *y, size_t y_length,
+    const uint16_t *tri, size_t tri_length,
+    const double *h, size_t h_length,
+    const uint8_t *kind, size_t kind_length,
+    double dt, double tau, double k, double f, uint8_t advection);
+
+/*
+ * Steps through a list of forcings: 14, then rows 1 to 5 and 7 to 10 once, then for each forcing 11, 12 and 13, as surge_step asks them, with the
+ * places that it gives. It stops at the first refusal. Result, clock, place and value are those of calls of surge_step made one after another, each
+ * from the next state of the one before; `accepted` says how many of these were accepted.
+ *
+ * An empty list asks 14 and rows 1 to 5 and 7 to 10, and not 11: it is accepted at step 4,294,967,295 too.
+ *
+ *   next          6N floats, written when a step is accepted, or the list is empty and accepted: the state after the accepted steps, in the runs of
+ *                 `state`, and of an empty list the state itself. As found after any refusal before the first accepted step.
+ *   work          11N floats of work room, the 5N of surge_step first, at either setting of advection. All +0 once a step has been accepted,
+ *                 whatever comes after it. After a 13 of the first forcing the first 5N are +0 and the 6N after them as found. As found after any
+ *                 other refusal before the first accepted step, and after an empty list.
+ *   sums          N whole numbers of work room. All 0 once a step has been accepted, and after a 13 of the first forcing. Else as found.
+ *   place, value  written
+ *   step          one number, read and written: the clock goes in, and comes back advanced by the accepted steps. Where there are none, what was
+ *                 found is written.
+ *   accepted      one number, written by every call: the accepted steps, 0 where there are none. Where the forcing numbered j from 0 is refused, j.
+ *   state         6N floats, read: it stays the present state. The caller goes on from `next`, after a refusal too where a step was accepted.
+ *   forcings      k(1+2N) floats, read: k forcings as surge_step takes them, one after another, k from 0 to 4,096. A length above 4,096(1+2N) is
+ *                 refused with 14, before row 1 and whatever the other slices are; another that is no multiple of 1+2N with 1.
+ *   the others    read
+ */
+uint32_t surge_step_all(
+    double *next, size_t next_length,
+    double *work, size_t work_length,
+    uint64_t *sums, size_t sums_length,
+    size_t *place, double *value,
+    uint32_t *step,
+    uint32_t *accepted,
+    const double *state, size_t state_length,
+    const double *forcings, size_t forcings_length,
     const int32_t *x, size_t x_length,
     const int32_t *y, size_t y_length,
     const uint16_t *tri, size_t tri_length,

@@ -9,6 +9,7 @@ mod friction;
 mod gauges;
 mod grids;
 mod layouts;
+mod lists;
 mod names;
 pub(crate) mod nans;
 mod spellings;
@@ -24,8 +25,8 @@ use std::collections::{BTreeMap, BTreeSet};
 use wanted::{all_conditions, Reached};
 
 /// Every number that a call other than those on gauges can answer.
-const NUMBERS: [u32; 24] = [
-    0, 1, 2, 3, 4, 5, 6, 7, 8, 9, 10, 11, 12, 13, 20, 21, 22, 23, 24, 25, 30, 31, 32, 33,
+const NUMBERS: [u32; 25] = [
+    0, 1, 2, 3, 4, 5, 6, 7, 8, 9, 10, 11, 12, 13, 14, 20, 21, 22, 23, 24, 25, 30, 31, 32, 33,
 ];
 
 /// The numbers of request #106.
@@ -78,6 +79,7 @@ struct Trail {
     loaded: texts::Loaded,
     mixed: forcings::Mixed,
     followed: gauges::Followed,
+    beside: lists::Beside,
 }
 
 impl Trail {
@@ -106,6 +108,7 @@ impl Trail {
         met.extend(nans::kept(script, called));
         met.extend(spellings::conditions(script, called));
         met.extend(self.latest.follow(script, called));
+        met.extend(self.beside.follow(script, called));
         if number == 0 {
             met.extend(self.crossing.follow(script, called));
             met.extend(self.loaded.follow(script, called));
@@ -113,6 +116,9 @@ impl Trail {
         }
         if call == Call::Step {
             met.extend(self.thirds(&met));
+        }
+        if call == Call::StepAll {
+            met.extend(lists::of_any(script, called));
         }
         if call == Call::Grid {
             self.mesh_read = number == 0;

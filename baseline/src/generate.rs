@@ -8,6 +8,7 @@ mod forcings;
 mod gauges;
 mod grids;
 mod lines;
+mod lists;
 mod nans;
 mod pen;
 mod runs;
@@ -32,6 +33,8 @@ pub enum Family {
     Grids,
     /// Gauges, and the runs whose states are handed over to them.
     Gauges,
+    /// Lists of forcings, and the single calls that they stand for.
+    Lists,
 }
 
 /// The script of a family, a seed and an index.
@@ -49,6 +52,10 @@ pub fn generate(family: Family, seed: u64, index: u64) -> Vec<u8> {
         Family::Gauges => {
             pen.say(format!("# gauges, seed {seed}, script {index}"));
             gauges::gauges(&mut pen);
+        }
+        Family::Lists => {
+            pen.say(format!("# lists, seed {seed}, script {index}"));
+            lists::lists(&mut pen);
         }
     }
     pen.into_text()

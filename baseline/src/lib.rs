@@ -10,6 +10,7 @@
 //! - `records`: what goes into the calls and comes back, [`Answer`] first;
 //! - [`mesh`]: what is lent, the triangle geometry, rows 1 to 9, [`open`];
 //! - [`step`](mod@step): rows 10 to 13, elevation, velocity, [`step()`];
+//! - [`lists`]: row 14, single calls one after another, [`step_all`];
 //! - [`frames`]: digits, fields, check byte, line faults;
 //! - [`forcings`]: the lines of one forcing, [`read_forcing`];
 //! - [`saves`]: [`save`] and [`load`], of both editions;
@@ -32,6 +33,7 @@ pub mod frames;
 pub mod gauges;
 pub mod generate;
 pub mod grids;
+pub mod lists;
 pub mod mesh;
 pub mod printing;
 mod records;
@@ -49,6 +51,7 @@ pub use gauges::{gauge_add, gauge_elevation, gauge_locate, gauge_peak, gauge_upd
 pub use gauges::{Crossed, Highest};
 pub use generate::{generate, Family};
 pub use grids::read_grid;
+pub use lists::step_all;
 pub use mesh::open;
 pub use printing::{example_13, print};
 pub use records::{Answer, Clock, Parameters};

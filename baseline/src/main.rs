@@ -14,8 +14,8 @@
 //!   they reach; the exit status is 1 where something is missed.
 //!
 //! `generate` and `coverage` take the word `grids` before the seed, for the
-//! scripts of grid texts, or `gauges`, for those of gauges; without it they are
-//! those of runs and forcings.
+//! scripts of grid texts, `gauges`, for those of gauges, or `lists`, for those of
+//! lists of forcings; without it they are those of runs and forcings.
 
 use baseline::Family;
 use std::env;
@@ -32,7 +32,7 @@ const BAD_LINE: u8 = 2;
 const USAGE: &str = "usage: baseline print | example13 | cases DIR | script [FILE…]
     | generate [FAMILY] SEED INDEX | generate [FAMILY] SEED FIRST COUNT DIR
     | coverage [FAMILY] SEED FIRST COUNT
-FAMILY is grids or gauges";
+FAMILY is grids, gauges or lists";
 
 fn main() -> ExitCode {
     let mut arguments = env::args_os().skip(1);
@@ -116,6 +116,7 @@ fn family(arguments: &[OsString]) -> (Family, &[OsString]) {
     match arguments {
         [first, rest @ ..] if first == "grids" => (Family::Grids, rest),
         [first, rest @ ..] if first == "gauges" => (Family::Gauges, rest),
+        [first, rest @ ..] if first == "lists" => (Family::Lists, rest),
         _ => (Family::Runs, arguments),
     }
 }

@@ -26,29 +26,62 @@ pub(crate) struct Mesh<'a> {
 }
 
 /// The length of a slice lent beside the mesh, and what it must hold: so many
-/// runs of N numbers, and so many numbers more.
+/// runs of N numbers, and so many numbers more; once, or any number of times.
 pub(crate) struct Lent {
     length: usize,
     runs: usize,
     more: usize,
+    once: bool,
 }
 
 impl Lent {
     /// A slice of runs of N numbers.
     pub fn runs(length: usize, runs: usize) -> Lent {
-        let more = 0;
-        Lent { length, runs, more }
+        let (more, once) = (0, true);
+        Lent {
+            length,
+            runs,
+            more,
+            once,
+        }
     }
 
     /// A forcing: the elevation, and two winds at each node.
     pub fn forcing(length: usize) -> Lent {
-        let (runs, more) = (2, 1);
-        Lent { length, runs, more }
+        let (runs, more, once) = (2, 1, true);
+        Lent {
+            length,
+            runs,
+            more,
+            once,
+        }
+    }
+
+    /// The list of request #107: "k forcings of 1+2N, one after another".
+    pub fn forcings(length: usize) -> Lent {
+        Lent {
+            once: false,
+            ..Lent::forcing(length)
+        }
+    }
+
+    /// The numbers of what is held once. In 128 bits no length is too large.
+    fn due(&self, n: usize) -> u128 {
+        n as u128 * self.runs as u128 + self.more as u128
     }
 
     fn fits(&self, n: usize) -> bool {
-        let runs = n.checked_mul(self.runs);
-        runs.and_then(|numbers| numbers.checked_add(self.more)) == Some(self.length)
+        let (length, due) = (self.length as u128, self.due(n));
+        if self.once {
+            length == due
+        } else {
+            length.is_multiple_of(due)
+        }
+    }
+
+    /// Whether it holds more than so many times what it would hold once.
+    pub fn exceeds(&self, times: u32, n: usize) -> bool {
+        self.length as u128 > u128::from(times) * self.due(n)
     }
 }
 

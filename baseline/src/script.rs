@@ -3,6 +3,7 @@
 //! of `docs/SCRIPT.md`.
 
 pub(crate) mod gauges;
+pub(crate) mod lists;
 pub(crate) mod slices;
 
 use crate::forcings::read_forcing;
@@ -14,6 +15,7 @@ use crate::records::{Answer, Clock, Parameters};
 use crate::saves::{load, save};
 use crate::step::step;
 use gauges::Gauge;
+use lists::LentToList;
 use slices::{Byte, Decimal, Float, Form, Held, Slice, Words};
 use std::io::Write;
 use std::mem::swap;
@@ -35,18 +37,20 @@ pub(crate) enum Call {
     Load,
     Read,
     Grid,
+    StepAll,
     Gauge(Gauge),
 }
 
 impl Call {
     /// Every call but those on gauges.
-    pub const ALL: [Call; 6] = [
+    pub const ALL: [Call; 7] = [
         Call::Open,
         Call::Step,
         Call::Save,
         Call::Load,
         Call::Read,
         Call::Grid,
+        Call::StepAll,
     ];
 
     /// The call that a command of one word makes.
@@ -65,6 +69,7 @@ impl Call {
             Call::Load => "load",
             Call::Read => "read",
             Call::Grid => "grid",
+            Call::StepAll => "stepall",
             Call::Gauge(gauge) => gauge.name(),
         }
     }
@@ -79,6 +84,8 @@ pub(crate) struct Called {
     pub expected: u32,
     /// The clock that went in.
     pub clock: Clock,
+    /// The count of steps that a `stepall` accepted, else 0.
+    pub accepted: u32,
     /// The point of a `gauge locate` or a `gauge add`, else (0, 0).
     pub point: Point,
     /// The number that a `gauge elevation` or a `gauge peak` asks for, else 0.
@@ -101,11 +108,14 @@ pub(crate) struct Script {
     pub work: Held<Float>,
     pub sums: Held<Decimal<u64>>,
     pub forcing: Held<Float>,
+    pub forcings: Held<Float>,
     pub text: Held<Byte>,
     pub lines: Held<Byte>,
     pub record: Held<Byte>,
     /// The record as the latest call on gauges was lent it.
     pub record_lent: Vec<u8>,
+    /// What the latest call on a list was lent and may have written over.
+    pub lent_to_list: LentToList,
     pub xbytes: Held<Byte>,
     pub ybytes: Held<Byte>,
     pub tribytes: Held<Byte>,
@@ -161,10 +171,12 @@ impl Script {
             work: Held::empty(),
             sums: Held::empty(),
             forcing: Held::empty(),
+            forcings: Held::empty(),
             text: Held::empty(),
             lines: Held::empty(),
             record: Held::empty(),
             record_lent: Vec::new(),
+            lent_to_list: LentToList::default(),
             xbytes: Held::empty(),
             ybytes: Held::empty(),
             tribytes: Held::empty(),
@@ -220,6 +232,7 @@ impl Script {
             b"parameters" => (self.p, self.advection) = read_parameters(&mut words)?,
             b"clock" => self.clock.step = words.read::<Decimal<u32>>()?,
             b"swap" => swap(&mut self.state, &mut self.next),
+            b"queue" => self.queue(words.place()?)?,
             b"pack" => self.pack(),
             of_slice => {
                 let slice = self.slice(words.next()?)?;
@@ -242,6 +255,7 @@ impl Script {
             b"work" => &mut self.work,
             b"sums" => &mut self.sums,
             b"forcing" => &mut self.forcing,
+            b"forcings" => &mut self.forcings,
             b"text" => &mut self.text,
             b"lines" => &mut self.lines,
             b"record" => &mut self.record,
@@ -256,7 +270,7 @@ impl Script {
     }
 
     /// "Each call lends the slices of its name in the table, and prints one
-    /// line, or two." "EXPECTED is a 32-bit unsigned number", "PX and PY are 32-bit
+    /// line, two or three." "EXPECTED is a 32-bit unsigned number", "PX and PY are 32-bit
     /// signed numbers, G is a 32-bit unsigned one".
     fn call(&mut self, call: Call, mut words: Words) -> Option<Called> {
         let (mut expected, mut point, mut gauge) = (0, [0; 2], 0);
@@ -271,7 +285,23 @@ impl Script {
             _ => (),
         }
         words.end()?;
-        let clock = self.clock;
+        let mut called = Called {
+            call,
+            answer: Answer::accepted(0),
+            expected,
+            clock: self.clock,
+            accepted: 0,
+            point,
+            gauge,
+        };
+        (called.answer, called.accepted) = self.make(called);
+        Some(called)
+    }
+
+    /// Makes a call and prints what comes back: the answer, and the count of steps
+    /// that a `stepall` accepted.
+    fn make(&mut self, called: Called) -> (Answer, u32) {
+        let call = called.call;
         let answer = match call {
             Call::Open => {
                 let (answer, clock) = self.open();
@@ -290,23 +320,17 @@ impl Script {
                 self.print_answer(call, answer)
             }
             Call::Read => {
-                let answer = self.read(expected);
+                let answer = self.read(called.expected);
                 self.print_answer(call, answer)
             }
             Call::Grid => {
                 let answer = self.grid();
                 self.print_answer(call, answer)
             }
-            Call::Gauge(of_five) => self.gauge(of_five, point, gauge),
+            Call::StepAll => return self.step_through(),
+            Call::Gauge(of_five) => self.gauge(of_five, called.point, called.gauge),
         };
-        Some(Called {
-            call,
-            answer,
-            expected,
-            clock,
-            point,
-            gauge,
-        })
+        (answer, 0)
     }
 
     /// "the clock handed back is the script's clock from then on".

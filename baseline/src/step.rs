@@ -19,6 +19,10 @@ const FASTEST: f64 = 20.0;
 /// Rows 10 and 12: a wind is not beyond this in size.
 const STRONGEST: f64 = 0.1;
 
+/// "work room is 3N binary64 and N 64-bit unsigned", and by request #103 "Work room
+/// grows by 2N binary64", at either setting.
+pub(crate) const WORK_RUNS: usize = 5;
+
 /// "kind 0 (free), 1 (open), 2 (held land)".
 const OPEN: u8 = 1;
 const HELD_LAND: u8 = 2;
@@ -459,7 +463,7 @@ impl Water {
 }
 
 /// The five runs of the work room.
-fn runs_of(work: &mut [f64], n: usize) -> [&mut [f64]; 5] {
+fn runs_of(work: &mut [f64], n: usize) -> [&mut [f64]; WORK_RUNS] {
     let (first, rest) = work.split_at_mut(n);
     let (second, rest) = rest.split_at_mut(n);
     let (third, rest) = rest.split_at_mut(n);
@@ -553,9 +557,7 @@ pub fn step(
 }
 
 /// All that is tested before a step works anything out. The lengths are those
-/// of the next state and the two work rooms: the next state is "a second lent
-/// slice" as long as the state, "work room is 3N binary64 and N 64-bit unsigned",
-/// and by request #103 "Work room grows by 2N binary64", at either setting.
+/// of the next state and the two work rooms.
 fn rows_1_to_12(
     mesh: &Mesh,
     [next, work, sums]: [usize; 3],
@@ -563,14 +565,28 @@ fn rows_1_to_12(
     forcing: &[f64],
     clock: Clock,
 ) -> Result<(), Answer> {
-    mesh.begin(&[
-        Lent::runs(next, STATE_RUNS),
-        Lent::runs(work, 5),
-        Lent::runs(sums, 1),
-        Lent::runs(state.len(), STATE_RUNS),
-        Lent::forcing(forcing.len()),
-    ])?;
-    row_10(mesh, &State::of(state))?;
+    let work = Lent::runs(work, WORK_RUNS);
+    let lent = [work, Lent::forcing(forcing.len())];
+    rows_1_to_10(mesh, lent, [next, sums], state)?;
     row_11(clock)?;
     row_12(&Forcing::of(forcing))
+}
+
+/// What any call that steps tests of the run as it is lent: the work room and what
+/// forces it are the call's own; the lengths are those of the next state, "a second
+/// lent slice" as long as the state, and of the sums.
+pub(crate) fn rows_1_to_10(
+    mesh: &Mesh,
+    [work, forced_by]: [Lent; 2],
+    [next, sums]: [usize; 2],
+    state: &[f64],
+) -> Result<(), Answer> {
+    mesh.begin(&[
+        Lent::runs(next, STATE_RUNS),
+        work,
+        Lent::runs(sums, 1),
+        Lent::runs(state.len(), STATE_RUNS),
+        forced_by,
+    ])?;
+    row_10(mesh, &State::of(state))
 }

@@ -126,7 +126,7 @@ const OVER: [&str; 7] = [
 const ROOMS: [(usize, &str); 3] = [(3, "work of 3N"), (4, "work of 4N"), (6, "work of 6N")];
 
 /// The settings.
-const SETTINGS: [&str; 2] = ["with advection off", "with advection on"];
+pub(crate) const SETTINGS: [&str; 2] = ["with advection off", "with advection on"];
 
 /// Steps on from a save that was made under the other setting.
 const CROSSED: [&str; 2] = [

@@ -6,7 +6,8 @@ use super::forcings;
 use super::friction;
 use super::grids;
 use super::layouts::Layout;
-use super::names::{lent_to, other_length, side, LIMITS, OTHER_LENGTHS};
+use super::lists;
+use super::names::{lent_to, other_length, other_lengths, side, LIMITS};
 use super::names::{PARAMETER_NAMES, RUN_NAMES};
 use super::texts;
 use super::wanted::{each, of, Reached};
@@ -27,6 +28,7 @@ pub(crate) fn conditions(script: &Script, called: Called) -> Vec<String> {
     let one = |condition: String| vec![condition];
     match (called.answer.number, called.call) {
         (_, Call::Grid) => grids::conditions(script, called.answer),
+        (0 | 1 | 11.., Call::StepAll) => lists::conditions(script, called),
         (0, Call::Read) => forcings::accepted(script, called.expected),
         (0, call) => accepted(script, call),
         (1, Call::Read) => forcings::room(script, called.expected),
@@ -80,7 +82,7 @@ pub(crate) fn difference(length: usize, due: usize) -> &'static str {
 }
 
 /// Row 1, the one slice that is wrong. A wrong x makes N wrong for all others.
-fn length(script: &Script, call: Call) -> Vec<String> {
+pub(crate) fn length(script: &Script, call: Call) -> Vec<String> {
     let (n, over) = (script.x.0.len(), script.tri.0.len() % 3);
     let lent = lent_to(call);
     let wrong: Vec<_> = lent
@@ -92,24 +94,24 @@ fn length(script: &Script, call: Call) -> Vec<String> {
         [] => vec![format!("tri {over} over")],
         _ if over != 0 => several(),
         [("forcing", runs, more)] => {
-            let mut met = vec![misfit(script, "forcing", runs * n + more)];
+            let mut met = vec![misfit(script, call, "forcing", runs * n + more)];
             met.extend(row_behind_the_forcing(script));
             met
         }
-        [(name, runs, more)] => vec![misfit(script, name, runs * n + more)],
+        [(name, runs, more)] => vec![misfit(script, call, name, runs * n + more)],
         all if all.len() == lent.len() => vec![format!("x {}", difference(n, script.y.0.len()))],
         _ => several(),
     }
 }
 
 /// How the one slice that is wrong differs.
-fn misfit(script: &Script, name: &str, due: usize) -> String {
+fn misfit(script: &Script, call: Call, name: &str, due: usize) -> String {
     let (n, length) = (script.x.0.len(), length_of(script, name));
-    let mut others = OTHER_LENGTHS.into_iter();
+    let mut others = other_lengths(call).iter();
     let other =
-        others.find(|&(other, runs, more)| other == name && length == runs * n + more && n > 0);
-    let room = match name {
-        "work" => advection::room(script),
+        others.find(|&&(other, runs, more)| other == name && length == runs * n + more && n > 0);
+    let room = match (name, call) {
+        ("work", Call::Step) => advection::room(script),
         _ => other.map(other_length),
     };
     room.unwrap_or_else(|| format!("{name} {}", difference(length, due)))

@@ -25,26 +25,50 @@ const LENGTHS: [Length; 8] = [
     ("forcing", 2, 1),
 ];
 
+/// The same for a list of forcings, beside the list as well.
+const LIST_LENGTHS: [Length; 7] = [
+    LENGTHS[0],
+    LENGTHS[1],
+    LENGTHS[2],
+    LENGTHS[3],
+    LENGTHS[4],
+    ("work", 11, 0),
+    LENGTHS[6],
+];
+
 /// The slices of row 1 that a call is lent, beside x and the triangles.
 pub(crate) fn lent_to(call: Call) -> &'static [Length] {
     match call {
         Call::Step => &LENGTHS,
+        Call::StepAll => &LIST_LENGTHS,
         _ => &LENGTHS[..4],
     }
 }
 
 /// Lengths by runs and numbers more that slices had before a request, or that a
-/// misreading would give them: row 1 refuses them.
-pub(crate) const OTHER_LENGTHS: [Length; 5] = [
-    ("state", 4, 0),
-    ("next", 4, 0),
-    ("forcing", 0, 3),
-    ("forcing", 1, 1),
-    ("forcing", 3, 0),
-];
+/// misreading would give them: row 1 refuses them. A single step's work room is told
+/// by its setting too.
+pub(crate) fn other_lengths(call: Call) -> &'static [Length] {
+    match call {
+        Call::StepAll => &[
+            ("state", 4, 0),
+            ("next", 4, 0),
+            ("work", 5, 0),
+            ("work", 6, 0),
+            ("work", 10, 0),
+        ],
+        _ => &[
+            ("state", 4, 0),
+            ("next", 4, 0),
+            ("forcing", 0, 3),
+            ("forcing", 1, 1),
+            ("forcing", 3, 0),
+        ],
+    }
+}
 
 /// What is said of a slice of one of these lengths.
-pub(crate) fn other_length((name, runs, more): Length) -> String {
+pub(crate) fn other_length(&(name, runs, more): &Length) -> String {
     match (runs, more) {
         (0, _) => format!("{name} of {more}"),
         (_, 0) => format!("{name} of {runs}N"),

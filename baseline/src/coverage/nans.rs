@@ -20,6 +20,7 @@ fn rows(call: Call) -> &'static [u32] {
         Call::Load => &[1, 2, 3, 4, 5, 7, 8, 9, 10, 20, 21, 22, 23, 25],
         Call::Read => &[1, 20, 21, 22],
         Call::Grid => &[30, 31, 32, 33],
+        Call::StepAll => &[1, 2, 3, 4, 5, 7, 8, 9, 10, 14],
         Call::Gauge(_) => &[],
     }
 }
@@ -35,9 +36,10 @@ fn places(call: Call, row: u32) -> Vec<&'static str> {
         (Call::Step, 13) => vec!["next"],
         (Call::Read, 1..) => vec!["forcing"],
         (Call::Grid, 30..) => vec!["h"],
+        (Call::StepAll, 1..=10 | 14) => vec!["state", "next", "work", "forcings"],
         _ => Vec::new(),
     };
-    if call != Call::Read && (1..=8).contains(&row) {
+    if call != Call::Read && ((1..=8).contains(&row) || row == 14) {
         places.push("h");
     }
     places
@@ -56,15 +58,28 @@ pub(crate) fn kept(script: &Script, called: Called) -> Vec<String> {
             "next" => &script.next.0,
             "work" => &script.work.0,
             "h" => &script.h.0,
+            "forcings" => &script.forcings.0,
             _ => &script.forcing.0,
         };
-        for sort in SORTS {
-            if floats.iter().any(|&float| sort_of(float) == Some(sort)) {
-                met.push(condition(place, sort));
-            }
-        }
+        met.extend(kept_in(place, floats));
     }
     met
+}
+
+/// The NaNs that are told apart in floats which a call left as found.
+pub(crate) fn kept_in(place: &str, floats: &[f64]) -> Vec<String> {
+    let held = |sort: &str| floats.iter().any(|&float| sort_of(float) == Some(sort));
+    let sorts = SORTS.into_iter().filter(|sort| held(sort));
+    sorts.map(|sort| condition(place, sort)).collect()
+}
+
+/// Every NaN that is to be kept at these places.
+pub(crate) fn all_kept_in(call: Call, row: u32, places: &[&str]) -> Vec<Reached> {
+    let mut all = Vec::new();
+    for place in places {
+        all.extend(SORTS.map(|sort| (call, row, condition(place, sort))));
+    }
+    all
 }
 
 /// The sort of a float, where it is a NaN that is told apart.
@@ -81,9 +96,7 @@ pub(crate) fn all_kept(calls: &[Call]) -> Vec<Reached> {
     let mut all = Vec::new();
     for &call in calls {
         for &row in rows(call) {
-            for place in places(call, row) {
-                all.extend(SORTS.map(|sort| (call, row, condition(place, sort))));
-            }
+            all.extend(all_kept_in(call, row, &places(call, row)));
         }
     }
     all

@@ -6,7 +6,8 @@ use super::forcings;
 use super::friction;
 use super::gauges;
 use super::grids;
-use super::names::{lent_to, other_length, LIMITS, OTHER_LENGTHS};
+use super::lists;
+use super::names::{lent_to, other_length, other_lengths, LIMITS};
 use super::names::{PARAMETER_NAMES, RUN_NAMES, SIDES};
 use super::nans::all_kept;
 use super::spellings;
@@ -27,6 +28,7 @@ pub(crate) fn all_conditions(family: Family) -> Vec<Reached> {
         Family::Runs => runs_and_lines(),
         Family::Grids => grids::all_conditions(),
         Family::Gauges => gauges::all_conditions(),
+        Family::Lists => lists::all_conditions(),
     }
 }
 
@@ -97,12 +99,12 @@ fn beyond(call: Call, number: u32, names: &[&str]) -> Vec<Reached> {
 }
 
 /// Row 1: each slice lent to the call.
-fn lengths(call: Call) -> Vec<Reached> {
+pub(crate) fn lengths(call: Call) -> Vec<Reached> {
     let mut names: Vec<&str> = lent_to(call).iter().map(|&(name, ..)| name).collect();
     names.push("x");
     let mut all = each(call, 1, &names, &["one shorter", "one longer", "empty"]);
     all.extend(of(call, 1, &["tri 1 over", "tri 2 over"]));
-    for length in OTHER_LENGTHS {
+    for length in other_lengths(call) {
         if names.contains(&length.0) {
             all.push((call, 1, other_length(length)));
         }

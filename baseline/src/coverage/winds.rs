@@ -159,6 +159,9 @@ pub(crate) fn which(node: usize, nodes: usize) -> &'static str {
     }
 }
 
+/// Row 12, where one wind of a node is beyond, by where the node stands.
+pub(crate) const ALONE: [&str; 2] = ["Wx' alone at the", "Wy' alone at the"];
+
 /// Row 12, where both winds of a node are beyond.
 const BOTH: &str = "Wx' and Wy' of a node";
 
@@ -184,9 +187,9 @@ pub(crate) fn row_12(script: &Script, place: usize) -> Vec<String> {
     let where_it_is = which(node, forcing.wx.len());
     match (along_x, along_y) {
         (Some(_), Some(_)) => vec![String::from(BOTH)],
-        (Some(one), None) => vec![one, format!("Wx' alone at the {where_it_is}")],
+        (Some(one), None) => vec![one, format!("{} {where_it_is}", ALONE[0])],
         (None, Some(one)) => {
-            let mut met = vec![one, format!("Wy' alone at the {where_it_is}")];
+            let mut met = vec![one, format!("{} {where_it_is}", ALONE[1])];
             let mut later = forcing.wx[node..].iter();
             if later.any(|&wind| side(wind, WIND).is_some()) {
                 met.push(String::from(BY_NODE));
@@ -209,8 +212,7 @@ pub(crate) fn all_conditions() -> Vec<Reached> {
     all.extend(all_held(Call::Load, ["node 06 Wx", "node 06 Wy"]));
     all.extend(all_held(Call::Load, ["head 01 Wx", "head 01 Wy"]));
     all.extend(each(Call::Step, 12, &["elevation", "Wx'", "Wy'"], &SIDES));
-    let alone = ["Wx' alone at the", "Wy' alone at the"];
-    all.extend(each(Call::Step, 12, &alone, &NODES));
+    all.extend(each(Call::Step, 12, &ALONE, &NODES));
     all.extend(of(Call::Step, 12, &[BOTH, BY_NODE, WIND_TOO]));
     all
 }

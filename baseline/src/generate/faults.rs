@@ -116,6 +116,11 @@ fn length(pen: &mut Pen) {
         "x", "y", "tri", "h", "kind", "state", "next", "work", "sums", "forcing",
     ];
     let name = pen.dice.one_of(&names);
+    other_length(pen, name);
+}
+
+/// 1: a slice one shorter, one longer, or empty.
+pub(crate) fn other_length(pen: &mut Pen, name: &str) {
     let length = pen.length(name);
     let Some(last) = pen.words(name).pop() else {
         return;
@@ -372,19 +377,24 @@ fn last_step(pen: &mut Pen) {
     pen.change_clock(Clock { step });
 }
 
-/// 12: "forcing elevation beyond 30; Wx', Wy' beyond 0.1", at any node, the first
-/// and the last as often as all others. At times the forcing is then read from
-/// lines.
+/// A place of a forcing, the first and the last node's as often as all others', and a
+/// number for row 12 to test there.
+pub(crate) fn number_for_12(pen: &mut Pen) -> (usize, f64) {
+    let (nodes, any) = (pen.nodes(), pen.any_node());
+    let node = pen.dice.one_of(&[0, any, nodes.saturating_sub(1)]);
+    let (at, range) = match pen.dice.below(5) {
+        0 => (0, ELEVATION),
+        1 | 2 => (1 + node, WIND),
+        _ => (1 + nodes + node, WIND),
+    };
+    (at, tested(&mut pen.dice, range))
+}
+
+/// 12: "forcing elevation beyond 30; Wx', Wy' beyond 0.1". At times the forcing is then
+/// read from lines.
 fn winds(pen: &mut Pen) {
     for _ in 0..pen.dice.one_of(&[1, 1, 1, 2, 2]) {
-        let (nodes, any) = (pen.nodes(), pen.any_node());
-        let node = pen.dice.one_of(&[0, any, nodes.saturating_sub(1)]);
-        let (at, range) = match pen.dice.below(5) {
-            0 => (0, ELEVATION),
-            1 | 2 => (1 + node, WIND),
-            _ => (1 + nodes + node, WIND),
-        };
-        let new = tested(&mut pen.dice, range);
+        let (at, new) = number_for_12(pen);
         pen.change_float("forcing", at, new);
     }
     let forcing = pen.script.forcing.0.clone();
@@ -414,7 +424,7 @@ fn keep_text(pen: &mut Pen) {
 }
 
 /// Short steps without tau and friction.
-fn becalm(pen: &mut Pen, dt: f64, f: f64) {
+pub(crate) fn becalm(pen: &mut Pen, dt: f64, f: f64) {
     pen.change_parameters(Parameters {
         dt,
         tau: 0.0,
@@ -489,7 +499,7 @@ fn rising(pen: &mut Pen, node: usize) {
 }
 
 /// The open elevation leaves a node with just enough water, or one bit less.
-fn low_tide(pen: &mut Pen, node: usize) {
+pub(crate) fn low_tide(pen: &mut Pen, node: usize) {
     let h = pen.dice.one_of(&[1.0, 1.25, 8.0, 29.0]);
     let lowest = lowest_elevation(h);
     let elevation = pen.dice.one_of(&[lowest, lowest.next_down(), -30.0]);
@@ -520,16 +530,22 @@ fn flooded(pen: &mut Pen, node: usize) {
     change_state(pen, run * nodes + node, speed);
 }
 
-/// Level water at a limit of z, or with just enough of it, and a node that moves:
-/// advection alone lifts nodes around it or draws them down, over the limit.
-fn lifted(pen: &mut Pen, node: usize) {
-    let (nodes, run) = (pen.nodes(), 2 + pen.dice.below(2));
+/// Level water at a limit of z, or with just enough of it, and no open node.
+pub(crate) fn level(pen: &mut Pen) {
+    let nodes = pen.nodes();
     let levels = [(64.0, 30.0), (64.0, -30.0), (1.0, lowest_elevation(1.0))];
     let (h, z) = pen.dice.one_of(&levels);
     pen.change_slice("h", format!("fill h {nodes} {}", word(h)));
     pen.change_slice("kind", format!("fill kind {nodes} 0"));
     pen.change_slice("state", format!("fill state {} {}", 2 * nodes, word(z)));
     pen.lengthen("state", &vec![word(0.0); 4 * nodes].join(" "));
+}
+
+/// Level water at a limit of z, or with just enough of it, and a node that moves:
+/// advection alone lifts nodes around it or draws them down, over the limit.
+fn lifted(pen: &mut Pen, node: usize) {
+    let (nodes, run) = (pen.nodes(), 2 + pen.dice.below(2));
+    level(pen);
     let speed = pen.dice.one_of(&[10.0, -10.0]);
     change_state(pen, run * nodes + node, speed);
 }

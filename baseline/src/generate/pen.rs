@@ -5,9 +5,11 @@ use super::dice::Dice;
 use super::values::{anything, word};
 use super::worlds::World;
 use crate::frames::two_digits;
+use crate::lists::LIST_WORK_RUNS;
 use crate::mesh::STATE_RUNS;
 use crate::records::{Answer, Clock, Parameters};
 use crate::script::{Call, Script};
+use crate::step::WORK_RUNS;
 use std::fmt::Display;
 
 /// Slices up to this length are printed, longer ones as a digest.
@@ -22,6 +24,7 @@ fn rooms_of(call: Call) -> &'static [&'static str] {
     match call {
         Call::Open => &["state"],
         Call::Step => &["state", "next", "work", "sums", "forcing"],
+        Call::StepAll => &["state", "next", "work", "sums", "forcings"],
         Call::Save | Call::Load => &["state", "text"],
         Call::Read => &["forcing", "lines"],
         Call::Grid | Call::Gauge(_) => &[],
@@ -170,8 +173,17 @@ impl Pen {
     /// accepted step they are "all zero", and a refusal that zeroes them would
     /// not be seen.
     pub fn work_rooms(&mut self) {
+        self.rooms_beside(WORK_RUNS);
+    }
+
+    /// The same for a list of forcings, whose work room is larger.
+    pub fn list_rooms(&mut self) {
+        self.rooms_beside(LIST_WORK_RUNS);
+    }
+
+    fn rooms_beside(&mut self, work_runs: usize) {
         self.fill_runs("next", STATE_RUNS);
-        self.fill_runs("work", 5);
+        self.fill_runs("work", work_runs);
         let filling = self.dice.bits();
         self.say(format!("fill sums {} {filling}", self.nodes()));
     }
@@ -302,6 +314,7 @@ impl Pen {
             "state" => &self.script.state.0,
             "next" => &self.script.next.0,
             "work" => &self.script.work.0,
+            "forcings" => &self.script.forcings.0,
             _ => &self.script.forcing.0,
         };
         if let Some(&old) = floats.get(at) {

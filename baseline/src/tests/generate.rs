@@ -32,7 +32,7 @@ fn draws_stay_in_their_range() {
     assert_eq!(dice.between(5, 5), 5);
 }
 
-const FAMILIES: [Family; 3] = [Family::Runs, Family::Grids, Family::Gauges];
+const FAMILIES: [Family; 4] = [Family::Runs, Family::Grids, Family::Gauges, Family::Lists];
 
 #[test]
 fn same_seed_same_text() {
@@ -51,7 +51,12 @@ fn same_seed_same_text() {
 /// changes only where the generator is changed.
 #[test]
 fn the_scripts_of_seed_1_are_these() {
-    let digests = ["447AB699156D1CE8", "EB4F1D6A1156CA1D", "CF23609F76F2D2FA"];
+    let digests = [
+        "447AB699156D1CE8",
+        "EB4F1D6A1156CA1D",
+        "CF23609F76F2D2FA",
+        "1433812E4BFB2832",
+    ];
     for (family, digest) in FAMILIES.into_iter().zip(digests) {
         let mut hash = 0xCBF2_9CE4_8422_2325_u64;
         for byte in (0..100).flat_map(|index| generate(family, 1, index)) {
@@ -241,7 +246,7 @@ fn coverage_tells_what_was_reached_and_what_was_missed() {
     for family in FAMILIES {
         let (text, whole) = coverage(family, 1, 0, 20);
         assert!(text.starts_with("scripts 20, with a bad line 0, calls "));
-        let calls = "\nnumber   open   step   save   load   read   grid";
+        let calls = "\nnumber   open   step   save   load   read   grid   stepall";
         let gauges = family == Family::Gauges;
         assert_eq!(text.contains(&format!("{calls}\n")), !gauges);
         assert_eq!(text.contains(&format!("{calls}   gauge locate ")), gauges);
@@ -253,7 +258,7 @@ fn coverage_tells_what_was_reached_and_what_was_missed() {
 /// Those that the gate compares with the product.
 #[test]
 fn the_first_scripts_of_seed_1_reach_every_condition() {
-    for (family, count) in FAMILIES.into_iter().zip([2_000, 1_000, 1_000]) {
+    for (family, count) in FAMILIES.into_iter().zip([2_000, 1_000, 1_000, 1_000]) {
         let (text, whole) = coverage(family, 1, 0, count);
         assert!(whole, "{text}");
     }

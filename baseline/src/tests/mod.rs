@@ -5,6 +5,7 @@ mod forcings;
 mod gauges;
 mod generate;
 mod grids;
+mod lists;
 mod mesh;
 mod printing;
 mod saves;

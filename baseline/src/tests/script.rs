@@ -58,6 +58,7 @@ fn every_slice_is_empty_at_the_start() {
         "work",
         "sums",
         "forcing",
+        "forcings",
         "text",
         "lines",
         "record",
@@ -92,6 +93,7 @@ fn elements_at_the_ends_of_their_forms() {
         "set kindbytes 02 FF",
         "set statebytes FF F7 01",
         "set forcing 8000000000000000 FFF7FFFFFFFFFFFF",
+        "set forcings 7FF0000000000001 8000000000000000",
     ] {
         let name = line.split(' ').nth(1).unwrap();
         printed_as(&format!("{line}\nprint {name}\n"), &format!("{line}\n"));
@@ -111,7 +113,7 @@ const NANS: [&str; 6] = [
 #[test]
 fn a_nan_that_is_held_keeps_its_pattern() {
     for nan in NANS {
-        for name in ["h", "state", "next", "work", "forcing"] {
+        for name in ["h", "state", "next", "work", "forcing", "forcings"] {
             let set = format!("set {name} {nan} {ONE}\n");
             printed_as(&format!("{set}print {name}\n"), &set);
             let made = format!("fill {name} 2 {ONE}\nput {name} 0 {nan}\nprint {name}\n");
@@ -287,6 +289,24 @@ fn swap_changes_state_and_next() {
 }
 
 #[test]
+fn queue_adds_the_forcing_to_the_list() {
+    let set = format!("set forcing {ONE} FFF7FFFFFFFFFFFF\n");
+    let once = format!(" {ONE} FFF7FFFFFFFFFFFF");
+    for count in 0..4 {
+        let script = format!("{set}queue {count}\nprint forcings\nprint forcing\n");
+        let list = format!("set forcings{}\n", once.repeat(count));
+        printed_as(&script, &format!("{list}{set}"));
+    }
+    let again = format!("{set}queue 1\nset forcing {ZERO}\nqueue 2\nprint forcings\n");
+    printed_as(&again, &format!("set forcings{once} {ZERO} {ZERO}\n"));
+    // Nothing, any number of times, is nothing.
+    let many = "9".repeat(44);
+    printed_as(&format!("queue {many}\nprint forcings\n"), "set forcings\n");
+    let script = format!("{set}queue {many}\n");
+    assert_eq!(run(script.as_bytes()).bad_line, Some(2));
+}
+
+#[test]
 fn digests_are_fnv_1a() {
     printed_as("digest x\n", "digest x 0 CBF29CE484222325\n");
     printed_as("set x 1 -2\ndigest x\n", "digest x 2 D346F6D5AA9F2015\n");
@@ -320,6 +340,8 @@ fn the_calls_on_nothing() {
         &format!("{one}step\n"),
         &format!("step 2 0 {ZERO}\nclock 0\n"),
     );
+    let list = format!("stepall 2 0 {ZERO}\nclock 0\naccepted 0\n");
+    printed_as("stepall\n", &list);
     printed_as("save\n", &format!("save 2 0 {ZERO}\n"));
     printed_as("load\n", &format!("load 2 0 {ZERO}\nclock 0\n"));
     for read in ["read 0\n", "read 4294967295\n"] {
@@ -375,6 +397,38 @@ fn a_step_leaves_the_state_and_the_next_call_the_clock() {
     let printed = prints(&script);
     assert!(printed.contains(&format!("set state {}\n", [ZERO; 18].join(" "))));
     assert!(printed.ends_with("clock 2\n"));
+}
+
+/// "`stepall NUMBER PLACE VALUE`", "`clock STEP`" and "`accepted COUNT`"; "the clock
+/// handed back is the script's clock from then on", and `swap` moves the next state.
+#[test]
+fn a_list_prints_three_lines() {
+    let rooms = format!("open\nfill work 33 {ONE}\nclock 7\n");
+    let strong = "put forcings 13 3FF0000000000000\n";
+    let last = "clock 4294967294\n";
+    for (change, answer, clock, count) in [
+        ("", "0 0", 9, 2),
+        ("keep forcings 0\n", "0 0", 7, 0),
+        ("keep forcings 13\n", "1 0", 7, 0),
+        ("keep work 15\n", "1 0", 7, 0),
+        ("queue 4095\n", "14 0", 7, 0),
+        (strong, "12 4", 8, 1),
+        (last, "11 0", 4_294_967_295_u32, 1),
+    ] {
+        let script = format!("{MESH_T}{rooms}queue 2\n{change}stepall\nopen\n");
+        let printed = prints(&script);
+        let lines: Vec<&str> = printed.lines().skip(2).take(3).collect();
+        let expected = [
+            format!("stepall {answer} {ZERO}"),
+            format!("clock {clock}"),
+            format!("accepted {count}"),
+        ];
+        assert_eq!(lines, expected, "{change}");
+    }
+    let list = format!("{MESH_T}{rooms}queue 2\nstepall\nswap\nprint state\n");
+    let singly = format!("{MESH_T}open\nclock 7\nstep\nswap\nstep\nswap\nprint state\n");
+    let last_line = |script: &str| prints(script).lines().last().map(String::from);
+    assert_eq!(last_line(&list), last_line(&singly));
 }
 
 #[test]
@@ -454,6 +508,9 @@ fn lines_that_are_no_command() {
         "open ",
         "open 1",
         "step 0",
+        "stepall 1",
+        "stepall ",
+        "step all",
         "save text",
         "load text",
         "swap 1",
@@ -533,6 +590,16 @@ fn counts_and_places_that_are_none() {
         bad(command);
     }
     for command in ["keep x", "keep x -1", "keep x 1 1", "keep x one", "keep x "] {
+        bad(command);
+    }
+    for command in [
+        "queue",
+        "queue ",
+        "queue -1",
+        "queue 1 1",
+        "queue x",
+        "queue x 1",
+    ] {
         bad(command);
     }
     bad("fill x 99999999999999999999999999999999999999999999 1");

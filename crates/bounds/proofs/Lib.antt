@@ -1,2 +1,3 @@
 pub mod StateLaws
 pub mod ForcingLaws
+pub mod ListLaws

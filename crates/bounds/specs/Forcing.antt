@@ -1,12 +1,14 @@
 -- Document 02, #105: a forcing as it is lent, and what a step tests before anything is worked out: the run's rows, and then row 12 over the forcing.
-use Prim.Native.Nat.{ℕ, _+_, _*_}
+-- #107: a list of forcings as it is lent, and what is tested of it.
+use Prim.Native.Nat.{ℕ, _+_, _*_, _/_, _%_}
 use mathlib.Core.Bool.{Bool}
 use mathlib.Core.List.{List}
-use lib.Dec.{eqb}
-use lib.ListN.{length, getD, drop}
+use lib.Dec.{eqb, leb}
+use lib.ListN.{length, getD, take, drop}
 use lib.Ieee.{Float, nan}
 use Rattle.rows.specs.declared.Answer.{Answer}
 use Rattle.rows.specs.Scan.{row, _then_, scan}
+use Rattle.lists.specs.Table.{table}
 use Rattle.lists.specs.Runs.{inRun}
 use Rattle.quantities.specs.declared.Parameters.{Parameters}
 use Rattle.quantities.specs.declared.Wind.{Wind}
@@ -18,8 +20,11 @@ use Rattle.bounds.specs.State.{runRows}
 abbrev pub windRuns : ℕ
 windRuns = 2
 
+abbrev pub forcingLength : ℕ → ℕ
+forcingLength n = 1 + windRuns * n
+
 abbrev pub isForcing : ℕ → List Float → Bool
-isForcing n f = eqb (length f) (1 + windRuns * n)
+isForcing n f = eqb (length f) (forcingLength n)
 
 abbrev pub elevationOf : List Float → Float
 elevationOf f = getD f 0 nan
@@ -42,3 +47,24 @@ row1Forcing m f = row (isForcing (N m) f) 1 0
 -- asked: what the call tests before the mesh's rows; also: what it tests after row 10 and before row 12
 unfoldable pub forcedRows : Answer → Mesh → Parameters → List Float → Answer → List Float → Answer
 forcedRows asked m p state also f = runRows (asked then row1Forcing m f) m p state then also then row12 (N m) f
+
+-- of a forcing alone, its length and then row 12
+unfoldable pub weatherRows : ℕ → List Float → Answer
+weatherRows n f = row (isForcing n f) 1 0 then row12 n f
+
+-- ---- #107: "a lent list of forcings", one after another
+abbrev pub forcingAt : ℕ → List Float → ℕ → List Float
+forcingAt n l j = take (forcingLength n) (drop (j * forcingLength n) l)
+
+unfoldable pub forcingsOf : ℕ → List Float → List (List Float)
+forcingsOf n l = table (length l / forcingLength n) (forcingAt n l)
+
+-- "14 for a list above 4,096 forcings of 1+2N numbers, before row 1, which covers uneven lengths." asked: what else the call tests in row 1
+abbrev pub mostForcings : ℕ
+mostForcings = 4096
+
+unfoldable pub row14 : ℕ → List Float → Answer
+row14 n l = row (leb (length l) (mostForcings * forcingLength n)) 14 0
+
+unfoldable pub listRows : Answer → ℕ → List Float → Answer
+listRows asked n l = row14 n l then asked then row (eqb (length l % forcingLength n) 0) 1 0

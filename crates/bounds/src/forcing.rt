@@ -10,7 +10,7 @@ ghost use Rattle.limits.specs.Limits.{row12Wind};
 ghost use Rattle.bounds.specs.Forcing.{windRuns, isForcing, windAt, row12};
 
 // The runs of the winds: Wx', Wy'.
-const WIND_RUNS: usize = 2;
+pub(crate) const WIND_RUNS: usize = 2;
 
 // Whether this is a forcing of n nodes.
 pub(crate) fn is_forcing(n: usize, f: &[f64]) -> bool

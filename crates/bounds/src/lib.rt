@@ -11,10 +11,16 @@ ghost use lib.ListN.{length};
 ghost use Rattle.rows.specs.Scan.{scan};
 ghost use Rattle.mesh.specs.Lent.{mesh};
 ghost use Rattle.bounds.specs.State.{stateRuns, nodeOf, row10, runRows};
-ghost use Rattle.bounds.specs.Forcing.{forcedRows};
+ghost use Rattle.bounds.specs.Forcing.{forcedRows, weatherRows, listRows};
 
 // The runs of a state: earlier elevation, present elevation, U, V, Wx, Wy.
 pub const STATE_RUNS: usize = 6;
+
+// The runs of a forcing's winds: Wx', Wy'.
+pub const WIND_RUNS: usize = forcing::WIND_RUNS;
+
+// A list has at most so many forcings.
+const MOST_FORCINGS: usize = 4096;
 
 // Node i of n, as the state has it.
 fn node_of(n: usize, h: &[f64], state: &[f64], i: usize) -> Node
@@ -104,4 +110,30 @@ pub fn forced_rows(
         return first;
     }
     forcing::forcing_rows(x.len(), f)
+}
+
+// What a further step of a list tests of its forcing, of n nodes.
+pub fn weather_rows(n: usize, f: &[f64]) -> Answer
+    ensures { λ r. ⌜ r ≡ weatherRows n (now (f .entry)) ⌝ }
+{
+    if forcing::is_forcing(n, f) {
+        forcing::forcing_rows(n, f)
+    } else {
+        rows::refuse(1, 0)
+    }
+}
+
+// Row 14 of a list on a mesh with these x, then row 1: what else the call tests of its slices, and that no forcing is cut short. Its length is
+// divided, and not 4,096 forcings' multiplied, so that nothing overflows.
+pub fn list_rows(asked: Answer, x: &[i32], list: &[f64]) -> Answer
+    ensures { λ r. ⌜ r ≡ listRows asked (length (now (x .entry))) (now (list .entry)) ⌝ }
+{
+    let long = 1 + WIND_RUNS * x.len();
+    let few = rows::tested(
+        (list.len() + (MOST_FORCINGS - 1)) / MOST_FORCINGS <= long,
+        14,
+        0,
+    );
+    let whole = rows::tested(list.len() % long == 0, 1, 0);
+    rows::first(few, rows::first(asked, whole))
 }

@@ -9,12 +9,13 @@ ghost use Rattle.mesh.specs.Lent.{mesh};
 ghost use Rattle.surge.specs.Lent.{run, after};
 ghost use Rattle.surge.specs.Open.{openOf};
 ghost use Rattle.surge.specs.Step.{stepOut, stepOf};
+ghost use Rattle.surge.specs.StepAll.{listOut, stepAllOf};
 ghost use Rattle.passes.specs.Settle.{lentRooms};
 ghost use Rattle.saves.specs.Save.{saveOut, saveOf};
 ghost use Rattle.loads.specs.Load.{loadOf};
 ghost use Rattle.forcings.specs.Forcings.{taken, takenOf};
 ghost use Rattle.grids.specs.Grid.{grid, readOut, readOf};
-ghost use Rattle.capi.specs.Numbers.{parameters, clock, answer, reply};
+ghost use Rattle.capi.specs.Numbers.{parameters, clock, answer, reply, listReply};
 
 // The setting of advection crosses as a byte: 0 is off, every other value on.
 fn parameters(dt: f64, tau: f64, k: f64, f: f64, advection: u8) -> Parameters
@@ -92,6 +93,39 @@ pub extern "C" fn surge_step(
     let c = Clock { step: *step };
     let stepped = surge::step(next, work, sums, state, forcing, x, y, tri, h, kind, p, c);
     hand_back(place, value, step, stepped)
+}
+
+// Steps through a list. The clock goes in and comes back, and the count of accepted steps comes back.
+#[no_mangle]
+pub extern "C" fn surge_step_all(
+    next: &mut [f64],
+    work: &mut [f64],
+    sums: &mut [u64],
+    place: &mut usize,
+    value: &mut f64,
+    step: &mut u32,
+    accepted: &mut u32,
+    state: &[f64],
+    forcings: &[f64],
+    x: &[i32],
+    y: &[i32],
+    tri: &[u16],
+    h: &[f64],
+    kind: &[u8],
+    dt: f64,
+    tau: f64,
+    k: f64,
+    f: f64,
+    advection: u8,
+) -> u32
+    ensures { λ r. ⌜ listOut (listReply (reply (answer r (now (place .exit)) (now (value .exit))) (clock (now (step .exit)))) (now (accepted .exit))) (now (next .exit)) (now (work .exit)) (now (sums .exit)) ≡ stepAllOf (mesh (now (x .entry)) (now (y .entry)) (now (tri .entry)) (now (h .entry)) (now (kind .entry))) (parameters dt tau k f advection) (run (now (state .entry)) (clock (now (step .entry)))) (now (forcings .entry)) (lentRooms (now (next .entry)) (now (work .entry)) (now (sums .entry))) ⌝ }
+{
+    let p = parameters(dt, tau, k, f, advection);
+    let c = Clock { step: *step };
+    let stepped = surge::step_all(next, work, sums, state, forcings, x, y, tri, h, kind, p, c);
+    *accepted = stepped.accepted;
+    let reply = stepped.reply;
+    hand_back(place, value, step, reply)
 }
 
 // Saves. The clock only goes in; the place of an accepted answer is the bytes written.

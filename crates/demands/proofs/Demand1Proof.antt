@@ -16,7 +16,8 @@ use Rattle.passes.specs.Settle.{Rooms}
 use Rattle.saves.specs.Save.{saveOf}
 use Rattle.loads.specs.Load.{loadOf}
 use Rattle.forcings.specs.Forcings.{takenOf}
-use Rattle.demands.specs.Demand1.{Accepts, Refuses, OpenSays, StepSays, SaveSays, LoadSays, ForcingSays, Demand1}
+use Rattle.demands.specs.Demand1.{Accepts, Refuses, OpenSays, StepSays, StepAllSays, SaveSays, LoadSays, ForcingSays, Demand1}
+use Rattle.demands.proofs.StepAllProof.{step-all-says}
 use Rattle.surge.proofs.NumberLaws.{not-13, only-13}
 use Rattle.surge.proofs.StepLaws.{early, late, step-cases}
 use Rattle.loads.proofs.LoadLaws.{load-cases}
@@ -91,11 +92,13 @@ pub demand1 : Demand1
 demand1 = record {
   surge·open = λ κs a x v met. subst (OpenSays _ _ _) (sym met) (open-says _ _ _);
   surge·step = λ κs a x v met. subst (StepSays _ _ _ _ _) (sym met) (step-says _ _ _ _ _);
+  surge·step-all = λ κs a x v met. subst (StepAllSays _ _ _ _ _) (sym met) (step-all-says _ _ _ _ _);
   saves·save = λ κs a x v met. subst (SaveSays _ _ _ _ _) (sym met) (save-says _ _ _ _ _);
   loads·load = λ κs a x v met. subst (LoadSays _ _ _ _ _) (sym met) (load-says _ _ _ _ _);
   forcings·read-forcing = λ κs a x v met. subst (ForcingSays _ _ _) (sym met) (forcing-says _ _ _);
   capi·surge-open = λ κs a x v met. subst (OpenSays _ _ _) (sym met) (open-says _ _ _);
   capi·surge-step = λ κs a x v met. subst (StepSays _ _ _ _ _) (sym met) (step-says _ _ _ _ _);
+  capi·surge-step-all = λ κs a x v met. subst (StepAllSays _ _ _ _ _) (sym met) (step-all-says _ _ _ _ _);
   capi·surge-save = λ κs a x v met. subst (SaveSays _ _ _ _ _) (sym met) (save-says _ _ _ _ _);
   capi·surge-load = λ κs a x v met. subst (LoadSays _ _ _ _ _) (sym met) (load-says _ _ _ _ _);
   capi·surge-read-forcing = λ κs a x v met. subst (ForcingSays _ _ _) (sym met) (forcing-says _ _ _);

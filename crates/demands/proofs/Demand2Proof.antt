@@ -22,11 +22,13 @@ pub demand2 : Demand2
 demand2 = record {
   surge·open = λ κs a x v met. met;
   surge·step = λ κs a x v met. met;
+  surge·step-all = λ κs a x v met. met;
   saves·save = λ κs a x v met. met;
   loads·load = λ κs a x v met. met;
   forcings·read-forcing = λ κs a x v met. met;
   capi·surge-open = λ κs a x v met. met;
   capi·surge-step = λ κs a x v met. met;
+  capi·surge-step-all = λ κs a x v met. met;
   capi·surge-save = λ κs a x v met. met;
   capi·surge-load = λ κs a x v met. met;
   capi·surge-read-forcing = λ κs a x v met. met;

@@ -1,11 +1,13 @@
 -- The product's calls have the laws of a history, so demand 3 holds of it; own saves are accepted back, and every run held can be saved.
-use Prim.Native.Nat.{ℕ, _*_}
+use Prim.Native.Nat.{ℕ, zero, suc, _*_, _/_, _<_}
 use mathlib.Core.Path.{_≡_, refl, sym, ap, subst, _∙_}
 use mathlib.Core.Bool.{true, false}
-use mathlib.Core.List.{List}
+use mathlib.Core.List.{List, foldl}
 use borrow.Author.Tests.{eqb-true, eq-eqb}
-use lib.ListN.{length}
-use lib.Ieee.{Float}
+use lib.Dec.{T}
+use lib.ListN.{length, getD, take}
+use lib.Ieee.{Float, nan, binary64, fits}
+use Rattle.lists.specs.Table.{table}
 use Rattle.quantities.specs.declared.Parameters.{Parameters}
 use Rattle.mesh.specs.Lent.{Mesh, N}
 use Rattle.rows.specs.Scan.{accepted}
@@ -13,10 +15,12 @@ use Rattle.surge.specs.Lent.{Run, run, After}
 use Rattle.nodes.specs.Rows.{meshRows}
 use Rattle.surge.specs.Open.{openAnswer, openOf}
 use Rattle.bounds.specs.State.{stateRuns, runRows}
+use Rattle.bounds.specs.Forcing.{forcingLength, forcingsOf}
 use Rattle.surge.specs.Step.{StepOut, advance}
 use Rattle.passes.specs.Settle.{Rooms}
-use Rattle.surge.proofs.StepLaws.{not-last, went-on, stayed}
+use Rattle.surge.proofs.StepLaws.{early, late, not-last, went-on, stayed}
 use Rattle.surge.proofs.NextLaws.{next-rows}
+use Rattle.surge.proofs.StepAllLaws.{step-all-along, step-all-keeps}
 use Rattle.surge.proofs.ColdLaws.{cold-rows, opened-mesh}
 use Rattle.loads.specs.Storable.{StorableState, StorableClock, StorableParameters}
 use Rattle.loads.proofs.OwnLaws.{saved-loaded}
@@ -28,7 +32,7 @@ use Rattle.loads.proofs.LoadLaws.{load-took, load-stayed, load-long, loaded-row
 use Rattle.history.specs.History.{Reply, Call, history, Laws}
 use Rattle.history.proofs.Demand3.{demand3, held-good, any-save-of-a-text}
 use Rattle.demands.specs.RoundTrip.{gives}
-use Rattle.demands.specs.Demand3.{Weather, accepts, coldRun, Into, itself, other, lent, stateAfter, stepped, saved, loaded, surge, Demand3AtSurge, AnySaveAtSurge, OpensCold, OwnSavesLoad, HeldRunsSave}
+use Rattle.demands.specs.Demand3.{Weather, WeatherList, weatherAt, weathers, accepts, coldRun, Into, itself, other, lent, stateAfter, stepped, caughtUp, saved, loaded, surge, Demand3AtSurge, AnySaveAtSurge, OpensCold, OwnSavesLoad, HeldRunsSave}
 
 module _ (m : Mesh) (p : Parameters) (sp : StorableParameters p) where
   -- a run that these calls can hold: six runs of N binary64, a clock that a head can hold, and row 10 passes where the mesh passes 1 to 9
@@ -41,6 +45,15 @@ module _ (m : Mesh) (p : Parameters) (sp : StorableParameters p) where
   good-cold = record { state = cold-state-storable (N m); clock = cold-clock-storable; bounds = cold-rows m p }
 
   -- ---- a step
+  -- an accepted one keeps a run so
+  next-good : (r : Run) (f : List Float) (rooms : Rooms) → ((j : ℕ) → j < length f → T (fits binary64 (getD f j nan))) → Good r
+      → early m p r f rooms .number ≡ 0 → late m p r f rooms .number ≡ 0 → Good (advance m p r f)
+  next-good r f rooms values g e l = record {
+    state = next-state-storable m p r f (past-fit f values) (g .state);
+    clock = next-clock-storable m p r f (past-fit f values) (not-last m p r f rooms e) (g .clock);
+    bounds = λ _. next-rows m p r f rooms e l;
+  }
+
   module _ (r : Run) (f : Weather) (rooms : Rooms) where
     abbrev its : Run
     its = advance m p r (f .forcing)
@@ -49,15 +62,31 @@ module _ (m : Mesh) (p : Parameters) (sp : StorableParameters p) where
     step-on g e =
         let w = went-on m p r (f .forcing) rooms e in (
           rw e (ap (λ (o : StepOut). run (o .rooms .next) (o .reply .clock)) (w .out)),
-          record {
-            state = next-state-storable m p r (f .forcing) (past-fit (f .forcing) (f .values)) (g .state);
-            clock = next-clock-storable m p r (f .forcing) (past-fit (f .forcing) (f .values)) (not-last m p r (f .forcing) rooms (w .first)) (g .clock);
-            bounds = λ _. next-rows m p r (f .forcing) rooms (w .first) (w .last);
-          },
+          next-good r (f .forcing) rooms (f .values) g (w .first) (w .last),
         )
 
     step-back : stepped m p r (f .forcing) rooms .accepted ≡ false → stepped m p r (f .forcing) rooms .held ≡ r
     step-back e = rw e (ap (run (r .state)) (stayed m p r (f .forcing) rooms e))
+
+  -- ---- a list
+  -- the equations along the forcings, as a program has them and as they are lent
+  same-along : (n k : ℕ) (f : ℕ → Weather) (r : Run)
+      → foldl (λ (q : Run) (w : Weather). advance m p q (w .forcing)) r (take k (table n f)) ≡ foldl (advance m p) r (take k (table n (λ j. f j .forcing)))
+  unfolding table
+  same-along zero zero f r = refl
+  same-along zero (suc k) f r = refl
+  same-along (suc n) zero f r = refl
+  same-along (suc n) (suc k) f r = same-along n k (λ j. f (suc j)) (advance m p r (f 0 .forcing))
+
+  list-on : (r : Run) (l : WeatherList) (rooms : Rooms) → Good r → let o = caughtUp m p r (l .list) rooms in
+      (o .held ≡ foldl (λ (q : Run) (w : Weather). advance m p q (w .forcing)) r (take (o .accepted) (weathers (N m) l))) × Good (o .held)
+  unfolding forcingsOf
+  list-on r l rooms g = (
+    step-all-along m p r (l .list) rooms .held
+        ∙ sym (same-along (length (l .list) / forcingLength (N m)) (caughtUp m p r (l .list) rooms .accepted) (weatherAt (N m) l) r),
+    step-all-keeps m p r (l .list) rooms (λ (f : List Float). (j : ℕ) → j < length f → T (fits binary64 (getD f j nan))) Good next-good
+        (λ j _. weatherAt (N m) l j .values) g,
+  )
 
   -- ---- a load
   abbrev left : After → Run
@@ -112,6 +141,7 @@ module _ (m : Mesh) (p : Parameters) (sp : StorableParameters p) where
     cold-good = good-cold;
     step-accepted = step-on;
     step-refused = step-back;
+    stepAll-accepted = list-on;
     load-accepted = load-on;
     load-refused = load-back;
     load-saved = λ r q text into g _ e ok. ap (λ (a : Reply Run). a .held) (own-text r q text into g (lent-long q _ into ok) e);

@@ -1,4 +1,5 @@
 pub mod Demand1Proof
+pub mod StepAllProof
 pub mod Demand2Proof
 pub mod FrictionProof
 pub mod AdvectionProof

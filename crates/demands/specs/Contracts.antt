@@ -11,6 +11,8 @@ use Rattle.surge.specs.declared.Clock.{Clock}
 use Rattle.mesh.specs.Lent.{Mesh, mesh}
 use Rattle.surge.specs.Lent.{Run, run, After, after}
 use Rattle.surge.specs.Step.{StepOut, stepOut}
+use Rattle.surge.specs.StepAll.{listOut}
+use Rattle.passes.specs.InTurn.{Turns}
 use Rattle.passes.specs.Settle.{Rooms, lentRooms}
 use Rattle.forcings.specs.Forcings.{Taken, taken}
 use Rattle.saves.specs.Save.{SaveOut, saveOut}
@@ -19,6 +21,8 @@ use Rattle.surge.proofs.open.Kinds as open-kinds
 use Rattle.surge.proofs.open.Reads as open-reads
 use Rattle.surge.proofs.step.Kinds as step-kinds
 use Rattle.surge.proofs.step.Reads as step-reads
+use Rattle.surge.proofs.step_all.Kinds as step-all-kinds
+use Rattle.surge.proofs.step_all.Reads as step-all-reads
 use Rattle.saves.proofs.save.Kinds as save-kinds
 use Rattle.saves.proofs.save.Reads as save-reads
 use Rattle.loads.proofs.load.Kinds as load-kinds
@@ -29,6 +33,8 @@ use Rattle.capi.proofs.surge_open.Kinds as surge-open-kinds
 use Rattle.capi.proofs.surge_open.Reads as surge-open-reads
 use Rattle.capi.proofs.surge_step.Kinds as surge-step-kinds
 use Rattle.capi.proofs.surge_step.Reads as surge-step-reads
+use Rattle.capi.proofs.surge_step_all.Kinds as surge-step-all-kinds
+use Rattle.capi.proofs.surge_step_all.Reads as surge-step-all-reads
 use Rattle.capi.proofs.surge_save.Kinds as surge-save-kinds
 use Rattle.capi.proofs.surge_save.Reads as surge-save-reads
 use Rattle.capi.proofs.surge_load.Kinds as surge-load-kinds
@@ -61,6 +67,15 @@ Stepping Says =
     (λ κs (next, (work, (sums, (state, (f, (x, (y, (tri, (h, (kind, (p, (clock, _)))))))))))) reply left.
     Says (mesh (x .now) (y .now) (tri .now) (h .now) (kind .now)) p (run (state .now) clock) (f .now) (lentRooms (next .now) (work .now) (sums .now))
     (stepOut reply (left .0) (left .1 .0) (left .1 .1 .0)))
+
+-- step_all(next, work, sums, state, list, x, y, tri, h, kind, p, clock): of the mesh, the parameters, the run, the list, the rooms as they were lent, and
+-- what is left
+abbrev pub SteppingAll : (Mesh → Parameters → Run → List Float → Rooms → Turns → Type 0) → Type 0
+SteppingAll Says =
+    Keeps step-all-kinds.ps step-all-kinds.r step-all-reads.Post
+    (λ κs (next, (work, (sums, (state, (list, (x, (y, (tri, (h, (kind, (p, (clock, _)))))))))))) reply left.
+    Says (mesh (x .now) (y .now) (tri .now) (h .now) (kind .now)) p (run (state .now) clock) (list .now) (lentRooms (next .now) (work .now) (sums .now))
+    (listOut reply (left .0) (left .1 .0) (left .1 .1 .0)))
 
 -- save(text, state, x, y, tri, h, kind, p, clock): of the mesh, the parameters, the state, the clock, the text room as it was lent, and what is left
 abbrev pub Saving : (Mesh → Parameters → List Float → Clock → List ℕ → SaveOut → Type 0) → Type 0
@@ -101,6 +116,17 @@ SteppingC Says =
     number (next′, (work′, (sums′, (place, (value, (step′, _)))))).
     Says (mesh (x .now) (y .now) (tri .now) (h .now) (kind .now)) (C.parameters dt tau k f on) (run (state .now) (C.clock (step .now))) (forcing .now)
     (lentRooms (next .now) (work .now) (sums .now)) (stepOut (C.reply (C.answer number place value) (C.clock step′)) next′ work′ sums′))
+
+-- surge_step_all(next, work, sums, place, value, step, accepted, state, forcings, x, y, tri, h, kind, dt, tau, k, f, advection)
+abbrev pub SteppingAllC : (Mesh → Parameters → Run → List Float → Rooms → Turns → Type 0) → Type 0
+SteppingAllC Says =
+    Keeps surge-step-all-kinds.ps surge-step-all-kinds.r surge-step-all-reads.Post
+    (λ κs
+    (next, (work, (sums, (_, (_, (step, (_, (state, (forcings, (x, (y, (tri, (h, (kind, (dt, (tau, (k, (f, (on, _)))))))))))))))))))
+    number (next′, (work′, (sums′, (place, (value, (step′, (accepted, _))))))).
+    Says (mesh (x .now) (y .now) (tri .now) (h .now) (kind .now)) (C.parameters dt tau k f on) (run (state .now) (C.clock (step .now))) (forcings .now)
+    (lentRooms (next .now) (work .now) (sums .now))
+    (listOut (C.listReply (C.reply (C.answer number place value) (C.clock step′)) accepted) next′ work′ sums′))
 
 -- surge_save(text, place, value, state, x, y, tri, h, kind, dt, tau, k, f, advection, step)
 abbrev pub SavingC : (Mesh → Parameters → List Float → Clock → List ℕ → SaveOut → Type 0) → Type 0

@@ -15,20 +15,23 @@ use Rattle.mesh.specs.Lent.{Mesh, E, corners}
 use Rattle.mesh.specs.Geometry.{sides, S}
 use Rattle.surge.specs.Open.{openAnswer, openOf}
 use Rattle.surge.specs.Step.{stepOf}
+use Rattle.surge.specs.StepAll.{stepAllOf}
 use Rattle.saves.specs.Save.{saveOf}
 use Rattle.loads.specs.Load.{loadOf}
 use Rattle.forcings.specs.Forcings.{takenOf}
-use Rattle.demands.specs.Contracts.{Opening, Stepping, Saving, Loading, Reading, OpeningC, SteppingC, SavingC, LoadingC, ReadingC}
+use Rattle.demands.specs.Contracts.{Opening, Stepping, SteppingAll, Saving, Loading, Reading, OpeningC, SteppingC, SteppingAllC, SavingC, LoadingC, ReadingC}
 use Rattle.demands.specs.Demand1.{Accepts}
 
 pub record Demand2 : Type 0 where
   pub surge·open : Opening (λ m p state o. o ≡ openOf m p state)
   pub surge·step : Stepping (λ m p s f r o. o ≡ stepOf m p s f r)
+  pub surge·step-all : SteppingAll (λ m p s l r o. o ≡ stepAllOf m p s l r)
   pub saves·save : Saving (λ m p state k t o. o ≡ saveOf m p state k t)
   pub loads·load : Loading (λ m p t state k o. o ≡ loadOf m p t state k)
   pub forcings·read-forcing : Reading (λ room t expected o. o ≡ takenOf room t expected)
   pub capi·surge-open : OpeningC (λ m p state o. o ≡ openOf m p state)
   pub capi·surge-step : SteppingC (λ m p s f r o. o ≡ stepOf m p s f r)
+  pub capi·surge-step-all : SteppingAllC (λ m p s l r o. o ≡ stepAllOf m p s l r)
   pub capi·surge-save : SavingC (λ m p state k t o. o ≡ saveOf m p state k t)
   pub capi·surge-load : LoadingC (λ m p t state k o. o ≡ loadOf m p t state k)
   pub capi·surge-read-forcing : ReadingC (λ room t expected o. o ≡ takenOf room t expected)

@@ -2,9 +2,11 @@
 -- sequence of steps, saves and loads, refused ones among them, where each text loaded was saved earlier in that sequence and not altered, the run held,
 -- state and clock, is what the equations of demand 2 give from the cold start, forcing by forcing, along its path. An accepted step adds its forcing to
 -- the path. A load puts the path back to what it was at the latest save of that text. Saves and refused calls change nothing in it."
+-- Document 02, #107, of a list of forcings: "For demand 3 the call adds exactly the accepted forcings to the path; once a step has been accepted, a later
+-- refusal in the list doesn't make it a refused call in demands 1 and 3".
 -- Here are the product's calls as a program makes them, and what it holds after each; the sequence, its path and the premise on a text that is loaded are
 -- history/specs/History. It is proved of every mesh and of rooms of any sizes: where one is not as the demand asks, the calls are refused.
-use Prim.Native.Nat.{ℕ, _*_, _<_, _≤_}
+use Prim.Native.Nat.{ℕ, _*_, _/_, _<_, _≤_}
 use mathlib.Core.Path.{_≡_}
 use mathlib.Core.Bool.{Bool, true, cond}
 use mathlib.Core.List.{List}
@@ -12,23 +14,39 @@ use lib.Dec.{T, eqb}
 use lib.ListN.{length, getD, take}
 use lib.Ieee.{Float, nan, binary64, fits}
 use Rattle.rows.specs.declared.Answer.{Answer}
+use Rattle.lists.specs.Table.{table}
 use Rattle.quantities.specs.declared.Parameters.{Parameters}
 use Rattle.mesh.specs.Lent.{Mesh, N}
 use Rattle.bounds.specs.State.{stateRuns}
+use Rattle.bounds.specs.Forcing.{forcingLength, forcingAt}
+use Rattle.bounds.proofs.ListLaws.{forcing-each}
 use Rattle.surge.specs.Lent.{Run, run, coldState, coldClock}
 use Rattle.surge.specs.Open.{openOf}
 use Rattle.surge.specs.Step.{advance, stepOf}
+use Rattle.surge.specs.StepAll.{stepAllOf, heldAfter}
 use Rattle.passes.specs.Settle.{Rooms}
 use Rattle.editions.specs.Lines.{saveLength}
 use Rattle.saves.specs.Save.{saveOf}
 use Rattle.loads.specs.Load.{loadOf}
 use Rattle.loads.specs.Storable.{StorableParameters}
-use Rattle.history.specs.History.{Reply, Written, Calls, Call, history, Demand3, AnySaveOfAText}
+use Rattle.history.specs.History.{Reply, Written, Caught, Calls, Call, history, Demand3, AnySaveOfAText}
 
 -- a forcing as a program has it: each of its numbers is a binary64
 pub record Weather : Type 0 where
   pub forcing : List Float
   pub values : (j : ℕ) → j < length forcing → T (fits binary64 (getD forcing j nan))
+
+-- #107: "a lent list of forcings" as a program has it: each of its numbers is a binary64
+pub record WeatherList : Type 0 where
+  pub list : List Float
+  pub values : (j : ℕ) → j < length list → T (fits binary64 (getD list j nan))
+
+-- the forcings that it has on n nodes, in order
+abbrev pub weatherAt : ℕ → WeatherList → ℕ → Weather
+weatherAt n w j = record { forcing = forcingAt n (w .list) j; values = forcing-each n (w .list) (λ (v : Float). T (fits binary64 v)) nan (w .values) j }
+
+abbrev pub weathers : ℕ → WeatherList → List Weather
+weathers n w = table (length (w .list) / forcingLength n) (weatherAt n w)
 
 -- "An accepted call has number 0"
 abbrev pub accepts : Answer → Bool
@@ -62,6 +80,13 @@ module _ (m : Mesh) (p : Parameters) where
       let ok = accepts (o .reply .answer) in
       record { accepted = ok; held = run (cond ok (o .rooms .next) (r .state)) (o .reply .clock) }
 
+  -- A list is lent rooms of any lengths too. "the next slice holds the state after these" that were accepted: where there are any it is the state held, and
+  -- else the state stays. The clock held is the one that it hands back.
+  abbrev pub caughtUp : Run → List Float → Rooms → Caught Run
+  caughtUp r l rooms =
+      let o = stepAllOf m p r l rooms in
+      record { accepted = o .accepted; held = heldAfter r o }
+
   -- A save is lent a text room of any length. The text saved is the bytes that it wrote: "a save's place is the bytes it wrote".
   abbrev pub saved : Run → List ℕ → Written
   saved r text =
@@ -83,11 +108,15 @@ module _ (m : Mesh) (p : Parameters) where
     StepRoom = Rooms;
     SaveRoom = List ℕ;
     LoadRoom = Into;
+    Lists = WeatherList;
+    ListRoom = Rooms;
+    forcings = weathers (N m);
     cold = coldRun m;
     advance = λ r f. advance m p r (f .forcing);
     step = λ r f rooms. stepped r (f .forcing) rooms;
     save = saved;
     load = loaded;
+    stepAll = λ r l rooms. caughtUp r (l .list) rooms;
   }
 
 -- Demand 3, on every mesh and with all parameters that a program can have: four binary64 values.

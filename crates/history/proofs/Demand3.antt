@@ -6,7 +6,8 @@ use mathlib.Core.Bool.{Bool, true, false, cond}
 use mathlib.Core.List.{List, [], _∷_, _++_, foldl, foldl-append, List-discrete}
 use mathlib.Core.Logic.{ite}
 use mathlib.Core.Option.{Option, some, Option·getD, IsSome}
-use Rattle.history.specs.History.{Calls, Call, step, save, load, Saved, History, begun, nth, latest, after, history, Own, AllOwn, along, Demand3, AnySaveOfAText, Laws}
+use lib.ListN.{take}
+use Rattle.history.specs.History.{Calls, Call, step, save, load, stepAll, Saved, History, begun, nth, latest, after, history, Own, AllOwn, along, Demand3, AnySaveOfAText, Laws}
 
 -- ---- the latest save of a text
 module _ (M : Calls) where
@@ -41,6 +42,7 @@ module _ (M : Calls) (L : Laws M) where
   after-good a (step f room) g = step-good (a .held) f room g _ refl
   after-good a (save room) g = g
   after-good a (load t room) g = load-good (a .held) t room g _ refl
+  after-good a (stepAll l room) g = L .stepAll-accepted (a .held) l room g .1
 
   calls-good : (a : History M) (cs : List (Call M)) → L .Good (a .held) → L .Good (foldl (after M) a cs .held)
   calls-good a [] g = g
@@ -113,10 +115,19 @@ module _ (M : Calls) (L : Laws M) where
   after-load a t room i h true e = rw e (sound-load (a .held) _ room (h .good) (found t (a .saved) (a .path) (i e) (h .saved)) e)
   after-load a t room i h false e = rw e (L .load-refused (a .held) t room e ∙ h .held)
 
+  after-list : (a : History M) (l : M .Lists) (room : M .ListRoom) → Holds a → let o = M .stepAll (a .held) l room in
+      o .held ≡ along M (a .path ++ take (o .accepted) (M .forcings l))
+  after-list a l room h =
+      let k = M .stepAll (a .held) l room .accepted in
+      L .stepAll-accepted (a .held) l room (h .good) .0
+      ∙ ap (λ (r : M .Run). foldl (M .advance) r (take k (M .forcings l))) (h .held)
+      ∙ sym (foldl-append (M .advance) (M .cold) (a .path) (take k (M .forcings l)))
+
   after-call : (a : History M) (c : Call M) → Own M a c → Holds a → Holds (after M a c)
   after-call a (step f room) i h = record { held = after-step a f room h _ refl; good = after-good a (step f room) (h .good); saved = h .saved }
   after-call a (save room) i h = record { held = h .held; good = h .good; saved = after-save a room h _ refl }
   after-call a (load t room) i h = record { held = after-load a t room i h _ refl; good = after-good a (load t room) (h .good); saved = h .saved }
+  after-call a (stepAll l room) i h = record { held = after-list a l room h; good = after-good a (stepAll l room) (h .good); saved = h .saved }
 
   after-calls : (a : History M) (cs : List (Call M)) → AllOwn M a cs → Holds a → Holds (foldl (after M) a cs)
   after-calls a [] i h = h

@@ -1,6 +1,6 @@
 -- What the passes leave together, and the outcomes of `settle`.
 use Prim.Native.Nat.{ℕ, _+_, _*_, _<_}
-use mathlib.Core.Path.{_≡_, refl, ap, _∙_}
+use mathlib.Core.Path.{_≡_, refl, sym, ap, _∙_}
 use mathlib.Core.Bool.{true, cond, _&&_}
 use mathlib.Core.List.{List, [], _∷_}
 use native.Mathlib.Nat.{one-mul}
@@ -10,10 +10,11 @@ use lib.ListN.{length, getD}
 use lib.Ieee.{Float, nan}
 use Rattle.rows.specs.declared.Answer.{Answer}
 use Rattle.rows.specs.Numbers.{plus0}
+use Rattle.rows.specs.Scan.{accepted}
 use Rattle.lists.specs.Table.{table, zeros}
 use Rattle.lists.specs.Runs.{isRuns, inRun, runsOf}
 use Rattle.lists.specs.Private.{withRun}
-use Rattle.rows.proofs.ScanLaws.{row-passed, other-number, both-left, both-right}
+use Rattle.rows.proofs.ScanLaws.{row-holds, row-passed, other-number, both-left, both-right}
 use Rattle.lists.proofs.RunLaws.{run-read, run-put, run-same, runs-alike, as-runs}
 use Rattle.quantities.specs.declared.Parameters.{Parameters}
 use Rattle.mesh.specs.Lent.{Mesh, N}
@@ -82,6 +83,9 @@ room-lengths runs r n e = record {
 
     first-two : (isRuns (length (r .next)) stateRuns n && isRuns (length (r .work)) runs n) ≡ true
     first-two = both-left _ (isRuns (length (r .sums)) 1 n) all-three
+
+pub lengths-room : (runs : ℕ) (r : Rooms) (n : ℕ) → RoomLengths runs r n → row1RoomsOf runs r n ≡ accepted
+lengths-room runs r n h = row-holds 1 0 (λ i. eq-eqb _ _ (h .next) i && eq-eqb _ _ (h .work) i && eq-eqb _ _ (h .sums ∙ sym (one-mul n)) i)
 
 -- ---- the outcomes
 module _ (m : Mesh) (p : Parameters) (state f : List Float) (also : Answer) (r : Rooms) where

@@ -4,14 +4,17 @@ use Rattle.editions.proofs.LineLaws.{lines-apart}
 use Rattle.lines.specs.Building.{Put, putOut}
 use Rattle.surge.specs.Lent.{After, after}
 use Rattle.passes.specs.Settle.{Settled, settled}
+use Rattle.passes.specs.InTurn.{Turns}
+use Rattle.passes.specs.SettleAll.{turns}
 use Rattle.surge.specs.Step.{StepOut, stepOut}
+use Rattle.surge.specs.StepAll.{listOut}
 use Rattle.saves.specs.Save.{SaveOut, saveOut}
 use Rattle.grids.specs.Grid.{grid, ReadOut, readOut}
 use Rattle.forcings.specs.Forcings.{Taken, taken}
 use Rattle.keeping.specs.Keeping.{AddOut, addOut, UpdateOut, updateOut}
 use Rattle.gauges.specs.Calls as G
 use Rattle.gauges.specs.Calls.{given, mark, Located, located, Measured, measured, Peaked, peaked}
-use Rattle.capi.specs.Numbers.{clock, answer, reply}
+use Rattle.capi.specs.Numbers.{clock, answer, reply, listReply}
 use Rattle.statements.specs.Determined.{EachDetermined, EachCallAsksNothing}
 
 -- the one law: two values that equal a third are equal
@@ -83,6 +86,8 @@ each-determined = record {
   nodes·open-rows-determined = λ κs a x y v w p q. (same p q, refl);
   bounds·run-rows-determined = λ κs a x y v w p q. (same p q, refl);
   bounds·forced-rows-determined = λ κs a x y v w p q. (same p q, refl);
+  bounds·weather-rows-determined = λ κs a x y v w p q. (same p q, refl);
+  bounds·list-rows-determined = λ κs a x y v w p q. (same p q, refl);
   location·nothing-determined = λ κs a x y v w p q. (same p q, refl);
   location·survey-determined = λ κs a x y v w p q. (same p q, refl);
   looking·look-determined = λ κs a x y v w p q. (same p q, refl);
@@ -125,6 +130,11 @@ each-determined = record {
   passes·settle-determined = λ κs a x y v w p q.
       let e : settled x (v .0) (v .1 .0) (v .1 .1 .0) ≡ settled y (w .0) (w .1 .0) (w .1 .1 .0) = same p q in
       (ap (λ (o : Settled). o .answer) e, λ i. (e i .rooms .next, (e i .rooms .work, (e i .rooms .sums, (tt, (tt, (tt, (tt, (tt, (tt, (tt, (tt, (tt, tt)))))))))))));
+  passes·settle-all-determined = λ κs a x y v w p q.
+      let e : turns x (v .0) (v .1 .0) (v .1 .1 .0) ≡ turns y (w .0) (w .1 .0) (w .1 .1 .0) = same p q in (
+        λ i. record { answer = e i .last .answer; step = e i .last .step; accepted = e i .accepted },
+        λ i. (e i .last .rooms .next, (e i .last .rooms .work, (e i .last .rooms .sums, (tt, (tt, (tt, (tt, (tt, (tt, (tt, (tt, (tt, tt)))))))))))),
+      );
   surge·open-determined = λ κs a x y v w p q.
       let e : after x (v .0) ≡ after y (w .0) = same p q in
       (ap (λ (o : After). o .reply) e, λ i. (e i .state, (tt, (tt, (tt, (tt, (tt, (tt, tt))))))));
@@ -132,6 +142,11 @@ each-determined = record {
       let e : stepOut x (v .0) (v .1 .0) (v .1 .1 .0) ≡ stepOut y (w .0) (w .1 .0) (w .1 .1 .0) = same p q in (
         ap (λ (o : StepOut). o .reply) e,
         λ i. (e i .rooms .next, (e i .rooms .work, (e i .rooms .sums, (tt, (tt, (tt, (tt, (tt, (tt, (tt, (tt, (tt, tt)))))))))))),
+      );
+  surge·step-all-determined = λ κs a x y v w p q.
+      let e : listOut x (v .0) (v .1 .0) (v .1 .1 .0) ≡ listOut y (w .0) (w .1 .0) (w .1 .1 .0) = same p q in (
+        λ i. listReply (reply (e i .last .answer) (clock (e i .last .step))) (e i .accepted),
+        λ i. (e i .last .rooms .next, (e i .last .rooms .work, (e i .last .rooms .sums, (tt, (tt, (tt, (tt, (tt, (tt, (tt, (tt, (tt, tt)))))))))))),
       );
   grids·read-grid-determined = λ κs a x y v w p q.
       let e : readOut x (grid (v .0) (v .1 .0) (v .1 .1 .0) (v .1 .1 .1 .0)) ≡ readOut y (grid (w .0) (w .1 .0) (w .1 .1 .0) (w .1 .1 .1 .0)) = same p q in
@@ -154,6 +169,11 @@ each-determined = record {
       let e : stepOut (reply (answer x (v .1 .1 .1 .0) (v .1 .1 .1 .1 .0)) (clock (v .1 .1 .1 .1 .1 .0))) (v .0) (v .1 .0) (v .1 .1 .0) ≡ stepOut (reply (answer y (w .1 .1 .1 .0) (w .1 .1 .1 .1 .0)) (clock (w .1 .1 .1 .1 .1 .0))) (w .0) (w .1 .0) (w .1 .1 .0) = same p q in (
         ap (λ (o : StepOut). o .reply .answer .number) e,
         λ i. (e i .rooms .next, (e i .rooms .work, (e i .rooms .sums, (e i .reply .answer .place, (e i .reply .answer .value, (e i .reply .clock .step, (tt, (tt, (tt, (tt, (tt, (tt, (tt, (tt, (tt, (tt, (tt, (tt, tt)))))))))))))))))),
+      );
+  capi·surge-step-all-determined = λ κs a x y v w p q.
+      let e : listOut (listReply (reply (answer x (v .1 .1 .1 .0) (v .1 .1 .1 .1 .0)) (clock (v .1 .1 .1 .1 .1 .0))) (v .1 .1 .1 .1 .1 .1 .0)) (v .0) (v .1 .0) (v .1 .1 .0) ≡ listOut (listReply (reply (answer y (w .1 .1 .1 .0) (w .1 .1 .1 .1 .0)) (clock (w .1 .1 .1 .1 .1 .0))) (w .1 .1 .1 .1 .1 .1 .0)) (w .0) (w .1 .0) (w .1 .1 .0) = same p q in (
+        ap (λ (o : Turns). o .last .answer .number) e,
+        λ i. (e i .last .rooms .next, (e i .last .rooms .work, (e i .last .rooms .sums, (e i .last .answer .place, (e i .last .answer .value, (e i .last .step, (e i .accepted, (tt, (tt, (tt, (tt, (tt, (tt, (tt, (tt, (tt, (tt, (tt, (tt, tt))))))))))))))))))),
       );
   capi·surge-save-determined = λ κs a x y v w p q.
       let e : saveOut (answer x (v .1 .0) (v .1 .1 .0)) (v .0) ≡ saveOut (answer y (w .1 .0) (w .1 .1 .0)) (w .0) = same p q in (
@@ -187,6 +207,7 @@ pub each-call-asks-nothing : EachCallAsksNothing
 each-call-asks-nothing = record {
   surge·open-asks-nothing = λ _ _. tt;
   surge·step-asks-nothing = λ _ _. tt;
+  surge·step-all-asks-nothing = λ _ _. tt;
   saves·save-asks-nothing = λ _ _. tt;
   loads·load-asks-nothing = λ _ _. tt;
   grids·read-grid-asks-nothing = λ _ _. tt;
@@ -195,6 +216,7 @@ each-call-asks-nothing = record {
   forcelog·end-asks-nothing = λ _ _. tt;
   capi·surge-open-asks-nothing = λ _ _. tt;
   capi·surge-step-asks-nothing = λ _ _. tt;
+  capi·surge-step-all-asks-nothing = λ _ _. tt;
   capi·surge-save-asks-nothing = λ _ _. tt;
   capi·surge-load-asks-nothing = λ _ _. tt;
   capi·surge-read-forcing-asks-nothing = λ _ _. tt;

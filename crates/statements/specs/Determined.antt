@@ -129,6 +129,10 @@ use Rattle.bounds.proofs.run_rows.Kinds as bounds·run-rows-kinds
 use Rattle.bounds.proofs.run_rows.Reads as bounds·run-rows-reads
 use Rattle.bounds.proofs.forced_rows.Kinds as bounds·forced-rows-kinds
 use Rattle.bounds.proofs.forced_rows.Reads as bounds·forced-rows-reads
+use Rattle.bounds.proofs.weather_rows.Kinds as bounds·weather-rows-kinds
+use Rattle.bounds.proofs.weather_rows.Reads as bounds·weather-rows-reads
+use Rattle.bounds.proofs.list_rows.Kinds as bounds·list-rows-kinds
+use Rattle.bounds.proofs.list_rows.Reads as bounds·list-rows-reads
 use Rattle.location.proofs.nothing.Kinds as location·nothing-kinds
 use Rattle.location.proofs.nothing.Reads as location·nothing-reads
 use Rattle.location.proofs.survey.Kinds as location·survey-kinds
@@ -161,10 +165,14 @@ use Rattle.gauges.proofs.gauge_peak.Kinds as gauges·gauge-peak-kinds
 use Rattle.gauges.proofs.gauge_peak.Reads as gauges·gauge-peak-reads
 use Rattle.passes.proofs.settle.Kinds as passes·settle-kinds
 use Rattle.passes.proofs.settle.Reads as passes·settle-reads
+use Rattle.passes.proofs.settle_all.Kinds as passes·settle-all-kinds
+use Rattle.passes.proofs.settle_all.Reads as passes·settle-all-reads
 use Rattle.surge.proofs.open.Kinds as surge·open-kinds
 use Rattle.surge.proofs.open.Reads as surge·open-reads
 use Rattle.surge.proofs.step.Kinds as surge·step-kinds
 use Rattle.surge.proofs.step.Reads as surge·step-reads
+use Rattle.surge.proofs.step_all.Kinds as surge·step-all-kinds
+use Rattle.surge.proofs.step_all.Reads as surge·step-all-reads
 use Rattle.grids.proofs.read_grid.Kinds as grids·read-grid-kinds
 use Rattle.grids.proofs.read_grid.Reads as grids·read-grid-reads
 use Rattle.forcings.proofs.read_forcing.Kinds as forcings·read-forcing-kinds
@@ -185,6 +193,8 @@ use Rattle.capi.proofs.surge_open.Kinds as capi·surge-open-kinds
 use Rattle.capi.proofs.surge_open.Reads as capi·surge-open-reads
 use Rattle.capi.proofs.surge_step.Kinds as capi·surge-step-kinds
 use Rattle.capi.proofs.surge_step.Reads as capi·surge-step-reads
+use Rattle.capi.proofs.surge_step_all.Kinds as capi·surge-step-all-kinds
+use Rattle.capi.proofs.surge_step_all.Reads as capi·surge-step-all-reads
 use Rattle.capi.proofs.surge_save.Kinds as capi·surge-save-kinds
 use Rattle.capi.proofs.surge_save.Reads as capi·surge-save-reads
 use Rattle.capi.proofs.surge_load.Kinds as capi·surge-load-kinds
@@ -277,6 +287,8 @@ pub record EachDetermined : Type 0 where
   pub nodes·open-rows-determined : Determined nodes·open-rows-kinds.ps nodes·open-rows-kinds.r nodes·open-rows-reads.Post
   pub bounds·run-rows-determined : Determined bounds·run-rows-kinds.ps bounds·run-rows-kinds.r bounds·run-rows-reads.Post
   pub bounds·forced-rows-determined : Determined bounds·forced-rows-kinds.ps bounds·forced-rows-kinds.r bounds·forced-rows-reads.Post
+  pub bounds·weather-rows-determined : Determined bounds·weather-rows-kinds.ps bounds·weather-rows-kinds.r bounds·weather-rows-reads.Post
+  pub bounds·list-rows-determined : Determined bounds·list-rows-kinds.ps bounds·list-rows-kinds.r bounds·list-rows-reads.Post
   pub location·nothing-determined : Determined location·nothing-kinds.ps location·nothing-kinds.r location·nothing-reads.Post
   pub location·survey-determined : Determined location·survey-kinds.ps location·survey-kinds.r location·survey-reads.Post
   pub looking·look-determined : Determined looking·look-kinds.ps looking·look-kinds.r looking·look-reads.Post
@@ -293,14 +305,17 @@ pub record EachDetermined : Type 0 where
   pub gauges·gauge-update-determined : Determined gauges·gauge-update-kinds.ps gauges·gauge-update-kinds.r gauges·gauge-update-reads.Post
   pub gauges·gauge-peak-determined : Determined gauges·gauge-peak-kinds.ps gauges·gauge-peak-kinds.r gauges·gauge-peak-reads.Post
   pub passes·settle-determined : Determined passes·settle-kinds.ps passes·settle-kinds.r passes·settle-reads.Post
+  pub passes·settle-all-determined : Determined passes·settle-all-kinds.ps passes·settle-all-kinds.r passes·settle-all-reads.Post
   pub surge·open-determined : Determined surge·open-kinds.ps surge·open-kinds.r surge·open-reads.Post
   pub surge·step-determined : Determined surge·step-kinds.ps surge·step-kinds.r surge·step-reads.Post
+  pub surge·step-all-determined : Determined surge·step-all-kinds.ps surge·step-all-kinds.r surge·step-all-reads.Post
   pub grids·read-grid-determined : Determined grids·read-grid-kinds.ps grids·read-grid-kinds.r grids·read-grid-reads.Post
   pub forcings·read-forcing-determined : Determined forcings·read-forcing-kinds.ps forcings·read-forcing-kinds.r forcings·read-forcing-reads.Post
   pub saves·save-determined : Determined saves·save-kinds.ps saves·save-kinds.r saves·save-reads.Post
   pub loads·load-determined : Determined loads·load-kinds.ps loads·load-kinds.r loads·load-reads.Post
   pub capi·surge-open-determined : Determined capi·surge-open-kinds.ps capi·surge-open-kinds.r capi·surge-open-reads.Post
   pub capi·surge-step-determined : Determined capi·surge-step-kinds.ps capi·surge-step-kinds.r capi·surge-step-reads.Post
+  pub capi·surge-step-all-determined : Determined capi·surge-step-all-kinds.ps capi·surge-step-all-kinds.r capi·surge-step-all-reads.Post
   pub capi·surge-save-determined : Determined capi·surge-save-kinds.ps capi·surge-save-kinds.r capi·surge-save-reads.Post
   pub capi·surge-load-determined : Determined capi·surge-load-kinds.ps capi·surge-load-kinds.r capi·surge-load-reads.Post
   pub capi·surge-read-forcing-determined : Determined capi·surge-read-forcing-kinds.ps capi·surge-read-forcing-kinds.r capi·surge-read-forcing-reads.Post
@@ -317,6 +332,7 @@ AsksNothing {n} ps Asked = (κs : Lfts n) (a : Dens κs ps) → Asked κs a
 pub record EachCallAsksNothing : Type 0 where
   pub surge·open-asks-nothing : AsksNothing surge·open-kinds.ps surge·open-reads.Asked
   pub surge·step-asks-nothing : AsksNothing surge·step-kinds.ps surge·step-reads.Asked
+  pub surge·step-all-asks-nothing : AsksNothing surge·step-all-kinds.ps surge·step-all-reads.Asked
   pub saves·save-asks-nothing : AsksNothing saves·save-kinds.ps saves·save-reads.Asked
   pub loads·load-asks-nothing : AsksNothing loads·load-kinds.ps loads·load-reads.Asked
   pub grids·read-grid-asks-nothing : AsksNothing grids·read-grid-kinds.ps grids·read-grid-reads.Asked
@@ -325,6 +341,7 @@ pub record EachCallAsksNothing : Type 0 where
   pub forcelog·end-asks-nothing : AsksNothing forcelog·end-kinds.ps forcelog·end-reads.Asked
   pub capi·surge-open-asks-nothing : AsksNothing capi·surge-open-kinds.ps capi·surge-open-reads.Asked
   pub capi·surge-step-asks-nothing : AsksNothing capi·surge-step-kinds.ps capi·surge-step-reads.Asked
+  pub capi·surge-step-all-asks-nothing : AsksNothing capi·surge-step-all-kinds.ps capi·surge-step-all-reads.Asked
   pub capi·surge-save-asks-nothing : AsksNothing capi·surge-save-kinds.ps capi·surge-save-reads.Asked
   pub capi·surge-load-asks-nothing : AsksNothing capi·surge-load-kinds.ps capi·surge-load-reads.Asked
   pub capi·surge-read-forcing-asks-nothing : AsksNothing capi·surge-read-forcing-kinds.ps capi·surge-read-forcing-reads.Asked

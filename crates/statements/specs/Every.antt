@@ -9,7 +9,7 @@ use Rattle.demands.specs.RoundTrip.{SavedIsLoaded, SameTextSameRun, LoadedIsSav
 use Rattle.demands.specs.Spellings.{EitherCase, ManySpellingsOneForm}
 use Rattle.demands.specs.Editions.{OldSavesLoad, OldBuildsRefuse}
 use Rattle.demands.specs.Demand3.{Demand3AtSurge, AnySaveAtSurge, OpensCold, OwnSavesLoad, HeldRunsSave}
-use Rattle.worked.specs.Computed.{ComputedHolds, LatestHolds}
+use Rattle.worked.specs.Computed.{ComputedHolds, LatestHolds, CaughtHolds}
 use Rattle.worked.specs.Examples.{ExamplesHold}
 use Rattle.statements.specs.Printing.{PrintingHolds}
 use Rattle.statements.specs.Grids.{GridDemands, RunsOnMeshesRead}
@@ -39,6 +39,7 @@ pub record EveryStatement : Type 0 where
   pub held-runs-save : HeldRunsSave
   pub computed : ComputedHolds
   pub latest : LatestHolds
+  pub caught : CaughtHolds
   pub examples : ExamplesHold
   pub printing : PrintingHolds
   pub grid-demands : GridDemands

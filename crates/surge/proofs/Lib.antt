@@ -3,3 +3,5 @@ pub mod StepLaws
 pub mod NumberLaws
 pub mod NextLaws
 pub mod ColdLaws
+pub mod SingleLaws
+pub mod StepAllLaws

@@ -105,3 +105,10 @@ module _ (P : Answer → Type 0) (none : P accepted) (each : (o : Outcome) (i : 
 
 pub only-13 : (g : Given) → (row13 g .number ≡ 0 → ⊥) → row13 g .number ≡ 13
 only-13 = last-has Last zero-last outcome-last
+
+-- ---- "An accepted call has number 0 and place 0": one that has number 0 is the accepted answer
+abbrev Plain : Answer → Type 0
+Plain a = a .number ≡ 0 → a ≡ accepted
+
+pub run-plain : (m : Mesh) (p : Parameters) (state : List Float) → Plain (runRows accepted m p state)
+run-plain m p state = run-has Plain (λ _. refl) (λ number place h e. absurd (subst Early e h)) accepted m p state (λ _. refl)

@@ -1,3 +1,4 @@
 pub mod Lent
 pub mod Open
 pub mod Step
+pub mod StepAll

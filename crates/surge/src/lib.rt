@@ -10,6 +10,7 @@ ghost use Rattle.passes.specs.Settle.{lentRooms};
 ghost use Rattle.surge.specs.Lent.{run, coldClock, advanced, after};
 ghost use Rattle.surge.specs.Open.{openOf};
 ghost use Rattle.surge.specs.Step.{stepOut, stepOf};
+ghost use Rattle.surge.specs.StepAll.{listOut, stepAllOf};
 
 // The step number.
 pub struct Clock {
@@ -38,6 +39,12 @@ impl Clock {
 pub struct Reply {
     pub answer: Answer,
     pub clock: Clock,
+}
+
+// What a call on a list of forcings hands back, with the count of accepted steps.
+pub struct ListReply {
+    pub reply: Reply,
+    pub accepted: u32,
 }
 
 // Opens a mesh: rows 1 to 9, then the cold state. The cold clock comes back either way.
@@ -89,5 +96,46 @@ pub fn step(
     Reply {
         answer,
         clock: clock.advanced(),
+    }
+}
+
+// Steps through a list of forcings, at most 4,096, one after another, and stops at the first refusal: what single steps would answer and leave. Rows 14 and 1 to
+// 10 are asked once, 11 to 13 of each forcing. Once a step has been accepted, `next` holds the state after those accepted, and the work room is zero.
+pub fn step_all(
+    next: &mut [f64],
+    work: &mut [f64],
+    sums: &mut [u64],
+    state: &[f64],
+    list: &[f64],
+    x: &[i32],
+    y: &[i32],
+    tri: &[u16],
+    h: &[f64],
+    kind: &[u8],
+    p: Parameters,
+    clock: Clock,
+) -> ListReply
+    ensures { λ r. ⌜ listOut r (now (next .exit)) (now (work .exit)) (now (sums .exit)) ≡ stepAllOf (mesh (now (x .entry)) (now (y .entry)) (now (tri .entry)) (now (h .entry)) (now (kind .entry))) p (run (now (state .entry)) clock) (now (list .entry)) (lentRooms (now (next .entry)) (now (work .entry)) (now (sums .entry))) ⌝ }
+{
+    let made = passes::settle_all(
+        next,
+        work,
+        sums,
+        x,
+        y,
+        tri,
+        h,
+        kind,
+        p,
+        state,
+        list,
+        clock.step,
+    );
+    let answer = made.answer;
+    let clock = Clock { step: made.step };
+    let reply = Reply { answer, clock };
+    ListReply {
+        reply,
+        accepted: made.accepted,
     }
 }

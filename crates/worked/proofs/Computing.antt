@@ -21,10 +21,11 @@ use Rattle.legs.specs.Legs.{isLeg, row6}
 use Rattle.nodes.specs.Rows.{isNamed, row7, row8, nodeRows, meshRows, openRows}
 use Rattle.surge.specs.Open.{openAnswer, openOf}
 use Rattle.bounds.specs.State.{row10, runRows}
-use Rattle.bounds.specs.Forcing.{row12, forcedRows}
+use Rattle.bounds.specs.Forcing.{row12, forcedRows, forcingsOf, row14, listRows}
 use Rattle.areas.specs.Areas.{total, sumD}
 use Rattle.passes.specs.Equations.{meansAt, sharesAt, rise, slopeX, slopeY, advectionU, advectionV, flowAt, nextState}
 use Rattle.passes.specs.Row13.{row13}
+use Rattle.passes.specs.InTurn.{another, listOf}
 use Rattle.surge.specs.Step.{advance, stepRows, stepsTo, stepOf}
 use Rattle.frames.specs.Texts.{startOf, linesTo}
 use Rattle.saves.specs.Save.{row24, saveAnswer, saveOf}
@@ -58,3 +59,7 @@ the-frames = tt
 unfoldable pub the-calls : Unit {0}
 unfolding openAnswer openOf stepRows stepsTo stepOf startOf linesTo sides area total sumD row24 saveAnswer saveOf row23 row25 lineRows trailingRow clockIn nodeIn rowsIn loadAnswer stateIn loadOf
 the-calls = tt
+
+unfoldable pub the-lists : Unit {0}
+unfolding forcingsOf row14 listRows another listOf
+the-lists = tt

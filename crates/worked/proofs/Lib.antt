@@ -2,3 +2,4 @@ pub mod Computing
 pub mod ExamplesProof
 pub mod ComputedProof
 pub mod LatestProof
+pub mod CaughtProof

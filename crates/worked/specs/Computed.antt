@@ -1,25 +1,29 @@
--- Two sequences of calls on mesh T, worked out call by call in the words of demand 3, so that what is said there of every sequence is seen to be said of one
--- that steps, is refused a step, saves, steps, loads what it saved, and steps again; and of one that saves the same text twice, at different paths.
-use Prim.Native.Nat.{ℕ, zero, suc}
+-- Three sequences of calls on mesh T, worked out call by call in the words of demand 3, so that what is said there of every sequence is seen to be said of one
+-- that steps, is refused a step, saves, steps, loads what it saved, and steps again; of one that saves the same text twice, at different paths; and of one
+-- that steps through a list (document 02, #107), which is refused on the way.
+use Prim.Native.Nat.{ℕ, zero, suc, _<_}
 use mathlib.Core.Path.{_≡_}
 use mathlib.Core.Bool.{false}
-use mathlib.Core.List.{List, [], _∷_, map}
+use mathlib.Core.List.{List, [], _∷_, _++_, map}
+use native.Mathlib.Omega.{arith}
 use lib.Dec.{T as Holds}
-use lib.ListN.{replicate, take, getD}
+use lib.ListN.{length, replicate, take, getD}
 use lib.Ieee.{Float, binary64, fits, nan}
 use lib.Ieee.Fits.{nan-fits, round-fits}
 use Rattle.rows.specs.declared.Answer.{Answer}
-use Rattle.lists.specs.Table.{table}
+use Rattle.lists.specs.Table.{table, zeros}
 use Rattle.rows.specs.Scan.{accepted, refused}
 use Rattle.rows.specs.Numbers.{decimal}
 use Rattle.surge.specs.Open.{openOf}
 use Rattle.surge.specs.Lent.{Run}
 use Rattle.surge.specs.Step.{stepOf}
+use Rattle.surge.specs.StepAll.{stepAllOf}
+use Rattle.passes.specs.Settle.{Rooms, lentRooms}
 use Rattle.frames.specs.Frames.{bits}
 use Rattle.saves.specs.Save.{wrote, saveOf}
 use Rattle.loads.specs.Load.{loadOf}
-use Rattle.history.specs.History.{Calls, Call, step, save, load, Saved, History, begun, after, history, AllOwn, along}
-use Rattle.demands.specs.Demand3.{Weather, itself, other, lent, saved, surge}
+use Rattle.history.specs.History.{Calls, Call, step, save, load, stepAll, Saved, History, begun, after, history, AllOwn, along}
+use Rattle.demands.specs.Demand3.{Weather, WeatherList, itself, other, lent, saved, surge}
 use Rattle.demands.specs.RoundTrip.{gives}
 use Rattle.worked.specs.Examples.{Outcome, stepped, T, T-parameters, T-rooms}
 
@@ -107,6 +111,7 @@ abbrev pub answer : Run → Call on-T → Answer
 answer r (step f rooms) = stepOf T T-parameters r (f .forcing) rooms .reply .answer
 answer r (save room) = saveOf T T-parameters (r .state) (r .clock) room .answer
 answer r (load t into) = loadOf T T-parameters t (lent r into) (r .clock) .reply .answer
+answer r (stepAll l rooms) = stepAllOf T T-parameters r (l .list) rooms .last .answer
 
 abbrev pub answers : History on-T → List (Call on-T) → List Outcome
 answers a [] = []
@@ -173,3 +178,35 @@ pub record LatestHolds : Type 0 where
   -- and the run does not: along either path it is the same
   pub held : history on-T twice .held ≡ along on-T (high ∷ [])
   pub same : along on-T (high ∷ []) ≡ along on-T (east ∷ [])
+
+-- ---- a list of three forcings, the second of which is refused
+pub joined-fit : (a b : List Float)
+    → ((j : ℕ) → j < length a → Holds (fits binary64 (getD a j nan))) → ((j : ℕ) → j < length b → Holds (fits binary64 (getD b j nan)))
+    → (j : ℕ) → j < length (a ++ b) → Holds (fits binary64 (getD (a ++ b) j nan))
+joined-fit [] b p q j h = q j h
+joined-fit (x ∷ a) b p q zero h = p 0 (omega arith)
+joined-fit (x ∷ a) b p q (suc j) h = joined-fit a b (λ i l. p (suc i) (omega arith)) q j (omega arith)
+
+abbrev pub storm : WeatherList
+storm = record {
+  list = east .forcing ++ (flood .forcing ++ north .forcing);
+  values = joined-fit (east .forcing) (flood .forcing ++ north .forcing) (east .values) (joined-fit (flood .forcing) (north .forcing) (flood .values) (north .values));
+}
+
+-- 6N, 11N and N places, with sevens in them
+abbrev pub list-rooms : Rooms
+list-rooms = lentRooms sevens (table 33 (λ _. decimal 7 1)) (table 3 (λ _. 7))
+
+abbrev pub catch-up : List (Call on-T)
+catch-up = stepAll storm list-rooms ∷ []
+
+pub record CaughtHolds : Type 0 where
+  -- the forcings are those of three single steps: the wind to the east, the elevation beyond 30, and the wind to the north
+  pub offered : map (λ (w : Weather). w .forcing) (on-T .forcings storm) ≡ east .forcing ∷ flood .forcing ∷ north .forcing ∷ []
+  -- the call answers for the second, as a single step does, and the run held after it is at step 1
+  pub answered : answers (begun on-T) catch-up ≡ stepped (refused 12 1) 1 ∷ []
+  -- the path has the first forcing alone, and the run held is that of a single step with it
+  pub path : map (λ (w : Weather). w .forcing) (history on-T catch-up .path) ≡ east .forcing ∷ []
+  pub held : history on-T catch-up .held ≡ history on-T (step east T-rooms ∷ []) .held
+  -- "all of it is zero once a step has been accepted": though the call refuses, nothing of the sevens is left in the 11N or in the sums
+  pub work : let o = stepAllOf T T-parameters (on-T .cold) (storm .list) list-rooms .last .rooms in (o .work ≡ zeros 33) × (o .sums ≡ table 3 (λ _. 0))

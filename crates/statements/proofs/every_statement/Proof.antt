@@ -13,6 +13,7 @@ use Rattle.demands.proofs.EditionsProof.{old-saves-load, old-builds-refuse}
 use Rattle.demands.proofs.Demand3Proof.{demand3-at-surge, any-save-at-surge, opens-cold, own-saves-load, held-runs-save}
 use Rattle.worked.proofs.ComputedProof.{computed-holds}
 use Rattle.worked.proofs.LatestProof.{latest-holds}
+use Rattle.worked.proofs.CaughtProof.{caught-holds}
 use Rattle.worked.proofs.ExamplesProof.{examples-hold}
 use Rattle.statements.proofs.PrintingProof.{printing-holds}
 use Rattle.statements.proofs.GridsProof.{grid-demands, runs-on-meshes-read}
@@ -45,6 +46,7 @@ every-statement = record {
   held-runs-save = held-runs-save;
   computed = computed-holds;
   latest = latest-holds;
+  caught = caught-holds;
   examples = examples-hold;
   printing = printing-holds;
   grid-demands = grid-demands;
