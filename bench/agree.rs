@@ -4,9 +4,9 @@
 use crate::hex;
 use crate::product::Product;
 use crate::run::{Answer, Clock, Mesh, Program, Rooms};
-use crate::tested::Tested;
 use crate::texts;
 use crate::world::{respell, World};
+use crate::{AS_SET, TESTED};
 
 /// The nodes of the mesh, and where in a save the line of parameters, the node lines and the end line begin.
 const N: usize = 20;
@@ -270,8 +270,8 @@ fn alike(at: usize, row: u32, given: &Given) {
     let (numbers, product) = outcomes(&Product, given);
     let others = numbers.iter().any(|&number| number != row);
     assert!(numbers.contains(&row) && !(row == 0 && others), "fault {at}, advection {advection}: the product answers {numbers:?}, not {row}");
-    for forms_as_set in [false, true] {
-        let (tested, traces) = outcomes(&Tested { forms_as_set }, given);
+    for program in [TESTED, AS_SET] {
+        let (tested, traces) = outcomes(&program, given);
         assert!(product == traces, "fault {at}, row {row}, advection {advection}: product {numbers:?}, tested {tested:?}");
     }
 }

@@ -3,7 +3,7 @@
 
 use crate::product::Product;
 use crate::run::{Answer, Grid, Program};
-use crate::tested::Tested;
+use crate::{AS_SET, TESTED};
 
 /// Lines that a line feed parts, what stands after the last of them, and the rooms' lengths.
 struct Given {
@@ -139,8 +139,8 @@ pub fn readings() -> (usize, usize) {
         change(&mut given);
         let (answer, grid) = given.outcome(&Product);
         assert!((answer.number, answer.place) == (row, place), "grid {at}: the product gives {answer:?}, not {row} at {place}");
-        for forms_as_set in [false, true] {
-            let (tested, left) = given.outcome(&Tested { forms_as_set });
+        for program in [TESTED, AS_SET] {
+            let (tested, left) = given.outcome(&program);
             let alike = (tested.number, tested.place, tested.value.to_bits()) == (row, place, answer.value.to_bits());
             assert!(alike && left == grid, "grid {at}: product {answer:?}, tested {tested:?}");
         }

@@ -1,10 +1,12 @@
-//! Plain Rust that tests nothing: the equations and the frames alone. Since nothing is refused, the new values go straight into the next state, and of the
-//! work room of floats only Au and Av take some. Node numbers are trusted, lengths and digits too.
+//! Plain Rust that tests nothing: the equations and the frames alone. Since nothing is refused, the new values of a single step go straight into the next
+//! state, and of its work room of floats only Au and Av take some. Node numbers are trusted, lengths and digits too.
 
 use crate::bare_grids;
-use crate::formulas::{new_elevation, new_velocity, shares, slope, Corner, New, Shares, Sides, Sums, Terms, HELD_LAND, OPEN};
+use crate::fixed::{Fixed, Shapes};
+use crate::formulas::{new_elevation, new_velocity, shares, slope, Corner, New, Shape, Shares, Sums, Terms, HELD_LAND, OPEN};
 use crate::hex;
-use crate::run::{fill_winds, Answer, Clock, Forcing, GridRooms, Known, Mesh, Program, Rooms, State};
+use crate::run::{fill_winds, runs, Answer, Clock, Forcing, GridRooms, Known, Made, Mesh, Program, Rooms, State, Stepped};
+use crate::walk;
 
 pub struct Bare;
 
@@ -30,55 +32,61 @@ fn corner(mesh: &Mesh, state: State, i: usize) -> Corner {
     Corner { h: at(mesh.h, i), earlier: at(earlier, i), z: at(z, i), u: at(u, i), v: at(v, i), wx: at(wx, i), wy: at(wy, i) }
 }
 
-fn sides(mesh: &Mesh, corners: [usize; 3]) -> Sides {
-    Sides::of(corners.map(|i| at(mesh.x, i)), corners.map(|i| at(mesh.y, i)))
+impl Shapes for Bare {
+    #[inline(always)]
+    fn each(&self, mesh: &Mesh, mut work: impl FnMut([usize; 3], Shape)) {
+        for corners in mesh.corners() {
+            work(corners, Shape::of(corners.map(|i| at(mesh.x, i)), corners.map(|i| at(mesh.y, i)), corners.map(|i| at(mesh.h, i))));
+        }
+    }
 }
 
 /// Au and Av of a node stand side by side, so that one wide addition serves both.
-fn gather<const ADVECTION: bool>(mesh: &Mesh, terms: &Terms, state: State, r: &mut [f64], carried: &mut [[f64; 2]], sums: &mut [u64]) {
+#[inline(never)]
+fn gather<const ADVECTION: bool>(fixed: &Fixed<Bare>, state: State, r: &mut [f64], carried: &mut [[f64; 2]], sums: &mut [u64]) {
     r.fill(0.0);
     sums.fill(0);
     if ADVECTION {
         carried.fill([0.0; 2]);
     }
-    for corners in mesh.corners() {
-        let sides = sides(mesh, corners);
-        let d = sides.twice_area();
-        let water = corners.map(|i| corner(mesh, state, i));
-        let Shares { r: given, carried: [of_u, of_v] } = shares::<ADVECTION>(terms, water, &sides, d);
+    fixed.each_triangle(|corners, shape| {
+        let water = corners.map(|i| corner(&fixed.mesh, state, i));
+        let Shares { r: given, carried: [of_u, of_v] } = shares::<ADVECTION>(&fixed.terms, water, shape);
         for j in 0..3 {
             *place(r, corners[j]) += given[j];
-            *place(sums, corners[j]) += d as u64;
+            *place(sums, corners[j]) += shape.d as u64;
             if ADVECTION {
                 let [au, av] = place(carried, corners[j]);
                 *au += of_u;
                 *av += of_v;
             }
         }
+    });
+}
+
+#[inline(never)]
+fn raise(fixed: &Fixed<Bare>, state: State, r: &mut [f64], sums: &[u64], elevation: f64) {
+    for (i, weights) in fixed.weights(sums).enumerate() {
+        let risen = new_elevation(weights, at(state.z, i), at(state.earlier, i), at(r, i));
+        *place(r, i) = if at(fixed.mesh.kind, i) == OPEN { elevation } else { risen };
     }
 }
 
-fn raise(mesh: &Mesh, terms: &Terms, state: State, r: &mut [f64], sums: &[u64], elevation: f64) {
-    for i in 0..mesh.nodes() {
-        let risen = new_elevation(terms, at(sums, i), at(state.z, i), at(state.earlier, i), at(r, i));
-        *place(r, i) = if at(mesh.kind, i) == OPEN { elevation } else { risen };
-    }
-}
-
-fn slopes(mesh: &Mesh, state: State, z_new: &[f64], px: &mut [f64], py: &mut [f64]) {
+#[inline(never)]
+fn slopes(fixed: &Fixed<Bare>, state: State, z_new: &[f64], px: &mut [f64], py: &mut [f64]) {
     px.fill(0.0);
     py.fill(0.0);
-    for corners in mesh.corners() {
-        let sides = sides(mesh, corners);
+    fixed.each_triangle(|corners, Shape { sides, .. }| {
         let both = corners.map(|i| at(state.z, i) + at(z_new, i));
         let (along_x, along_y) = (slope(both, sides.b), slope(both, sides.a));
         for i in corners {
             *place(px, i) += along_x;
             *place(py, i) += along_y;
         }
-    }
+    });
 }
 
+#[inline(never)]
 fn flows<const ADVECTION: bool>(mesh: &Mesh, terms: &Terms, state: State, known: Known, px: &mut [f64], py: &mut [f64]) {
     let Known { z_new, forcing, carried, sums } = known;
     for i in 0..mesh.nodes() {
@@ -91,22 +99,35 @@ fn flows<const ADVECTION: bool>(mesh: &Mesh, terms: &Terms, state: State, known:
     }
 }
 
+/// As in the tested program, no part is woven into the loop over a list.
+fn solve<const ADVECTION: bool>(fixed: &Fixed<Bare>, state: State, forcing: Forcing, made: Made) {
+    let Made { new: [z, u, v], carried, sums } = made;
+    gather::<ADVECTION>(fixed, state, z, carried, sums);
+    raise(fixed, state, z, sums, forcing.elevation);
+    slopes(fixed, state, z, u, v);
+    flows::<ADVECTION>(&fixed.mesh, &fixed.terms, state, Known { z_new: z, forcing, carried, sums }, u, v);
+}
+
 fn step<const ADVECTION: bool>(mesh: &Mesh, rooms: Rooms, state: &[f64], clock: Clock, forcing: &[f64]) -> (Answer, Clock) {
     let n = mesh.nodes();
-    let terms = Terms::of(mesh.p);
     let (state, new) = (State::of(state, n), Forcing::of(forcing, n));
-    let (earlier, rest) = rooms.next.split_at_mut(n);
-    let (z, rest) = rest.split_at_mut(n);
-    let (u, rest) = rest.split_at_mut(n);
-    let (v, winds) = rest.split_at_mut(n);
-    let (carried, _) = rooms.work[..2 * n].as_chunks_mut::<2>();
+    let (water, winds) = rooms.next.split_at_mut(4 * n);
+    let [earlier, z, u, v] = runs(water);
     earlier.copy_from_slice(state.z);
-    gather::<ADVECTION>(mesh, &terms, state, z, carried, rooms.sums);
-    raise(mesh, &terms, state, z, rooms.sums, new.elevation);
-    slopes(mesh, state, z, u, v);
-    flows::<ADVECTION>(mesh, &terms, state, Known { z_new: z, forcing: new, carried, sums: rooms.sums }, u, v);
+    let made = Made { new: [z, u, v], carried: rooms.work[..2 * n].as_chunks_mut().0, sums: rooms.sums };
+    solve::<ADVECTION>(&Fixed::of(mesh, Bare), state, new, made);
     winds.copy_from_slice(&forcing[1..]);
     (Answer::accepted(0), clock.advanced())
+}
+
+fn forced<const ADVECTION: bool>(fixed: &Fixed<Bare>, _: Clock, state: State, forcing: Forcing, made: Made) -> Result<(), Answer> {
+    solve::<ADVECTION>(fixed, state, forcing, made);
+    Ok(())
+}
+
+fn step_all<const ADVECTION: bool>(mesh: &Mesh, rooms: Rooms, state: &[f64], clock: Clock, forcings: &[f64]) -> Stepped {
+    let state = State::of(state, mesh.nodes());
+    walk::through(Fixed::of(mesh, Bare), rooms, state, clock, forcings, forced::<ADVECTION>, forced::<ADVECTION>)
 }
 
 /// The sum of all D.
@@ -183,6 +204,12 @@ impl Program for Bare {
         // chosen here, once, so that no loop asks for the setting
         let step = if mesh.p.advection { step::<true> } else { step::<false> };
         step(mesh, rooms, state, clock, forcing)
+    }
+
+    #[inline(never)]
+    fn step_all(&self, mesh: &Mesh, rooms: Rooms, state: &[f64], clock: Clock, forcings: &[f64]) -> Stepped {
+        let step_all = if mesh.p.advection { step_all::<true> } else { step_all::<false> };
+        step_all(mesh, rooms, state, clock, forcings)
     }
 
     #[inline(never)]

@@ -78,6 +78,24 @@ impl Sides {
     }
 }
 
+/// What a triangle has that no step changes.
+#[derive(Clone, Copy)]
+pub struct Shape {
+    pub sides: Sides,
+    /// D
+    pub d: f64,
+    /// g times the mean of h
+    weight: f64,
+}
+
+impl Shape {
+    #[inline(always)]
+    pub fn of(x: [i32; 3], y: [i32; 3], h: [f64; 3]) -> Shape {
+        let sides = Sides::of(x, y);
+        Shape { sides, d: sides.twice_area(), weight: G * mean(h) }
+    }
+}
+
 #[inline(always)]
 fn mean(v: [f64; 3]) -> f64 {
     ((v[0] + v[1]) + v[2]) / 3.0
@@ -109,7 +127,7 @@ struct FlowSlopes {
 
 impl FlowSlopes {
     #[inline(always)]
-    fn of(corners: [Corner; 3], sides: &Sides) -> FlowSlopes {
+    fn of(corners: [Corner; 3], sides: Sides) -> FlowSlopes {
         let slopes = |speeds| [slope(speeds, sides.b), slope(speeds, sides.a)];
         FlowSlopes { u: slopes(corners.map(|c| c.u)), v: slopes(corners.map(|c| c.v)) }
     }
@@ -130,8 +148,9 @@ pub struct Shares {
 }
 
 #[inline(always)]
-pub fn shares<const ADVECTION: bool>(t: &Terms, corners: [Corner; 3], sides: &Sides, d: f64) -> Shares {
-    let Sides { a, b } = *sides;
+pub fn shares<const ADVECTION: bool>(t: &Terms, corners: [Corner; 3], shape: Shape) -> Shares {
+    let Shape { sides, d, weight } = shape;
+    let Sides { a, b } = sides;
     let z = corners.map(|c| c.z);
     let squares = corners.map(|c| c.z * c.z);
     let ub = mean(corners.map(|c| c.u));
@@ -141,7 +160,6 @@ pub fn shares<const ADVECTION: bool>(t: &Terms, corners: [Corner; 3], sides: &Si
     let qy = mean(corners.map(|c| c.v * (c.h + c.z)));
     let wx = mean(corners.map(|c| c.wx));
     let wy = mean(corners.map(|c| c.wy));
-    let weight = G * mean(corners.map(|c| c.h));
     let (gx, gy) = (slope(z, b), slope(z, a));
     let (sx, sy) = (slope(squares, b), slope(squares, a));
     let twice = 2.0 * d;
@@ -153,11 +171,17 @@ pub fn shares<const ADVECTION: bool>(t: &Terms, corners: [Corner; 3], sides: &Si
     Shares { r: [share(0), share(1), share(2)], carried: flow.carried(ub, vb) }
 }
 
+/// What a node's last rise and its new one are weighed by.
+#[inline(always)]
+pub fn weights(t: &Terms, s: u64) -> [f64; 2] {
+    let l = (s as f64 / 6.0) / t.dt;
+    [l * t.earlier_weight, l * t.new_weight]
+}
+
 /// z' of a node that is not open.
 #[inline(always)]
-pub fn new_elevation(t: &Terms, s: u64, z: f64, earlier: f64, r: f64) -> f64 {
-    let l = (s as f64 / 6.0) / t.dt;
-    z + ((l * t.earlier_weight) * (z - earlier) + r) / (l * t.new_weight)
+pub fn new_elevation([last, new]: [f64; 2], z: f64, earlier: f64, r: f64) -> f64 {
+    z + (last * (z - earlier) + r) / new
 }
 
 /// What a node has gathered from its triangles when its U' and V' are worked out.

@@ -1,7 +1,7 @@
 //! What one program holds of a run while it is measured.
 
 use crate::hex;
-use crate::run::{Answer, Clock, Grid, Mesh, Program, Rooms};
+use crate::run::{Answer, Clock, Grid, Mesh, Program, Rooms, Stepped};
 use crate::world::Log;
 
 pub struct Held<'a> {
@@ -12,6 +12,7 @@ pub struct Held<'a> {
     pub grid: Grid,
     pub forcing: Vec<f64>,
     next: Vec<f64>,
+    /// the first 5N serve a single step, all 11N a list
     work: Vec<f64>,
     sums: Vec<u64>,
 }
@@ -27,7 +28,7 @@ impl<'a> Held<'a> {
             grid: Grid::of([n, n, n, mesh.tri.len()]),
             forcing: vec![0.0; 1 + 2 * n],
             next: vec![0.0; 6 * n],
-            work: vec![0.0; 5 * n],
+            work: vec![0.0; 11 * n],
             sums: vec![0; n],
         }
     }
@@ -47,17 +48,38 @@ impl<'a> Held<'a> {
     /// So many steps by a log; the next state becomes the present one.
     pub fn steps(&mut self, mesh: &Mesh, log: &Log, count: usize) {
         for _ in 0..count {
-            let (answer, clock) = self.step(mesh, log.at(self.clock.step));
-            self.accepted(answer);
-            self.clock = clock;
-            std::mem::swap(&mut self.state, &mut self.next);
+            self.step_by(mesh, log.at(self.clock.step));
         }
+    }
+
+    fn step_by(&mut self, mesh: &Mesh, forcing: &[f64]) {
+        let (answer, clock) = self.step(mesh, forcing);
+        self.accepted(answer);
+        self.clock = clock;
+        std::mem::swap(&mut self.state, &mut self.next);
     }
 
     /// One call, whatever it answers.
     pub fn step(&mut self, mesh: &Mesh, forcing: &[f64]) -> (Answer, Clock) {
-        let rooms = Rooms { next: &mut self.next, work: &mut self.work, sums: &mut self.sums };
+        let rooms = Rooms { next: &mut self.next, work: &mut self.work[..5 * mesh.nodes()], sums: &mut self.sums };
         self.program.step(mesh, rooms, &self.state, self.clock, forcing)
+    }
+
+    /// A list by single calls.
+    pub fn step_each(&mut self, mesh: &Mesh, forcings: &[f64]) {
+        for forcing in forcings.chunks_exact(self.forcing.len()) {
+            self.step_by(mesh, forcing);
+        }
+    }
+
+    /// A whole list in one call; the next state becomes the present one.
+    pub fn step_all(&mut self, mesh: &Mesh, forcings: &[f64]) {
+        let rooms = Rooms { next: &mut self.next, work: &mut self.work, sums: &mut self.sums };
+        let Stepped { answer, clock, accepted } = self.program.step_all(mesh, rooms, &self.state, self.clock, forcings);
+        self.accepted(answer);
+        assert_eq!(accepted as usize, forcings.len() / self.forcing.len(), "{}: another count", self.program.name());
+        self.clock = clock;
+        std::mem::swap(&mut self.state, &mut self.next);
     }
 
     pub fn save(&mut self, mesh: &Mesh) {

@@ -2,21 +2,24 @@
 //! `tools/bench` builds and runs it; docs/SPEED.md has the figures of one run.
 //!
 //!     bench [ROUNDS]              the tables
-//!     bench CALL PROGRAM COUNT    one call by one program, for a profiler: open, step, step-on, save, load, forcing, grid or update, by product,
-//!                                 tested or bare
+//!     bench CALL PROGRAM COUNT    one call by one program, for a profiler: open, step, step-on, list, list-on, save, load, forcing, grid or update,
+//!                                 by product, tested or bare
 
 mod agree;
 mod agree_gauges;
 mod agree_grids;
+mod agree_lists;
 mod bare;
 mod bare_gauges;
 mod bare_grids;
 mod board;
+mod fixed;
 mod formulas;
 mod gauge_tables;
 mod gauges;
 mod held;
 mod hex;
+mod lists;
 mod parts;
 mod product;
 mod product_gauges;
@@ -26,13 +29,14 @@ mod search;
 mod tested;
 mod texts;
 mod timing;
+mod walk;
 mod world;
 
 use bare::Bare;
 use held::Held;
 use product::Product;
 use run::{Mesh, Program};
-use tested::Tested;
+use tested::{Keeps, Tested};
 use timing::{interleaved, Times};
 use world::{respell, Log, World};
 
@@ -43,10 +47,12 @@ const TEXTS: usize = 20;
 /// The steps of a measure of growth, times its nodes: short, since there are five.
 const NODE_STEPS: usize = 600_000;
 
-const TESTED: Tested = Tested { forms_as_set: false };
-const AS_SET: Tested = Tested { forms_as_set: true };
+const TESTED: Tested = Tested { forms_as_set: false, keeps: Keeps::Nothing };
+const AS_SET: Tested = Tested { forms_as_set: true, ..TESTED };
 
 const PROGRAMS: [&dyn Program; 3] = [&Product, &TESTED, &Bare];
+/// TESTED but for its lists.
+const KEEPING: [&dyn Program; 2] = [&Tested { keeps: Keeps::Weights, ..TESTED }, &Tested { keeps: Keeps::Shapes, ..TESTED }];
 
 fn main() {
     let words: Vec<String> = std::env::args().skip(1).collect();
@@ -59,9 +65,12 @@ fn main() {
     println!("{faults} faults of grid texts and {right} right ones likewise");
     let (faults, right) = agree_gauges::calls();
     println!("{faults} faults of gauges likewise, and {right} right calls, by the bare program too");
+    let (faults, right) = agree_lists::calls();
+    println!("{faults} faults of lists likewise, whatever (b) keeps, advection off and on, and {right} right lists, by the bare program too");
     let world = World::grid(80, 50);
     let log = world.log(STEPS);
     let (off, on) = calls(rounds, &world, &log);
+    lists::all(rounds, &world);
     growth(rounds);
     parts_of_a_step(rounds, "a step", &world, &off, log.at(0));
     parts_of_a_step(rounds, "a step, advection on", &world.with_advection(), &on, log.at(0));
@@ -72,7 +81,7 @@ fn main() {
 /// One call by one program, so many times. Steps begin anew at the end of the log.
 fn only(call: &str, name: &str, count: usize) {
     let mut world = World::grid(80, 50);
-    world.p.advection = call == "step-on";
+    world.p.advection = call.ends_with("-on");
     let mesh = world.mesh();
     let program = PROGRAMS.iter().find(|program| program.name() == name).expect("product, tested or bare");
     let mut run = Held::new(*program, &mesh);
@@ -80,6 +89,9 @@ fn only(call: &str, name: &str, count: usize) {
     let winds = texts::winds(log.at(0));
     if call == "update" {
         return gauge_tables::only(name, &world, &log, count);
+    }
+    if call.starts_with("list") {
+        return lists::only(&mut run, &world, count);
     }
     run.save(&mesh);
     for at in 0..count {
@@ -95,7 +107,7 @@ fn only(call: &str, name: &str, count: usize) {
             "load" => run.load(&mesh),
             "forcing" => run.read_forcing(&winds),
             "grid" => run.read_grid(&grid),
-            _ => panic!("open, step, step-on, save, load, forcing, grid or update"),
+            _ => panic!("open, step, step-on, list, list-on, save, load, forcing, grid or update"),
         }
     }
 }

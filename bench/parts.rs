@@ -1,13 +1,14 @@
 //! What a step's time, a grid reading's time and the time of an update of the gauges are made of.
 
 use crate::board::Board;
-use crate::formulas::Terms;
+use crate::fixed::Fixed;
 use crate::gauges::{Gauges, Lent, Point};
 use crate::held::Held;
 use crate::record;
 use crate::run::{Forcing, Known, Program, State};
 use crate::search::{self, Spot};
-use crate::tested::{gauges, mesh, step};
+use crate::tested::step::{self, Checked};
+use crate::tested::{gauges, mesh};
 use crate::timing::{each, interleaved};
 use crate::world::World;
 use std::hint::black_box;
@@ -125,7 +126,7 @@ fn inside_at<const ADVECTION: bool>(rounds: usize, world: &World, numbers: &[f64
     let mesh = world.mesh();
     let n = mesh.nodes();
     let (state, forcing) = (State::of(numbers, n), Forcing::of(forced, n));
-    let terms = Terms::of(mesh.p);
+    let due = Fixed::of(&mesh, Checked);
     let (mut r, mut px, mut py) = (vec![0.0; n], vec![0.0; n], vec![0.0; n]);
     let (mut work, mut next, mut sums) = (vec![0.0; 5 * n], vec![0.0; 6 * n], vec![0u64; n]);
     let mut carried = vec![[0.0; 2]; n];
@@ -138,14 +139,14 @@ fn inside_at<const ADVECTION: bool>(rounds: usize, world: &World, numbers: &[f64
     part("row 10, over the nodes", &mut || assert!(step::row_10(black_box(&mesh), numbers).is_ok()));
     part("row 12, over the nodes", &mut || assert!(step::row_12(black_box(forcing)).is_ok()));
     let gathered = if ADVECTION { "R, S, Au and Av, over the triangles" } else { "R and S, over the triangles" };
-    part(gathered, &mut || step::gather::<ADVECTION>(black_box(&mesh), &terms, state, &mut r, &mut carried, &mut sums));
+    part(gathered, &mut || step::gather::<ADVECTION, _, _>(black_box(&due), state, &mut r, &mut carried, &mut sums));
     // z' is made in the place of R, so that later rounds find z' there: the time does not go by the value
-    part("z', over the nodes", &mut || step::raise(black_box(&mesh), &terms, state, &mut r, &sums, forcing.elevation));
+    part("z', over the nodes", &mut || step::raise(black_box(&due), state, &mut r, &sums, forcing.elevation));
     r.copy_from_slice(state.z);
     part("row 13 of z'", &mut || assert!(step::row_13_levels(black_box(&mesh), &r).is_ok()));
-    part("Px and Py, over the triangles", &mut || step::slopes(black_box(&mesh), state, &r, &mut px, &mut py));
+    part("Px and Py, over the triangles", &mut || step::slopes(black_box(&due), state, &r, &mut px, &mut py));
     let known = Known { z_new: &r, forcing, carried: &carried, sums: &sums };
-    part("U' and V', over the nodes", &mut || step::flows::<ADVECTION>(black_box(&mesh), &terms, state, known, &mut px, &mut py));
+    part("U' and V', over the nodes", &mut || step::flows::<ADVECTION>(black_box(&mesh), &due.terms, state, known, &mut px, &mut py));
     px.copy_from_slice(state.u);
     py.copy_from_slice(state.v);
     part("row 13 of U' and V'", &mut || assert!(step::row_13_speeds(black_box(&px), black_box(&py)).is_ok()));

@@ -1,6 +1,6 @@
 //! The product, through include/surge.h. Nothing checks these declarations against the header; that the three programs give the same bits does.
 
-use crate::run::{Answer, Clock, GridRooms, Mesh, Program, Rooms};
+use crate::run::{Answer, Clock, GridRooms, Mesh, Program, Rooms, Stepped};
 
 #[link(name = "capi", kind = "static")]
 #[rustfmt::skip]
@@ -24,6 +24,21 @@ extern "C" {
         step: *mut u32,
         state: *const f64, state_length: usize,
         forcing: *const f64, forcing_length: usize,
+        x: *const i32, x_length: usize,
+        y: *const i32, y_length: usize,
+        tri: *const u16, tri_length: usize,
+        h: *const f64, h_length: usize,
+        kind: *const u8, kind_length: usize,
+        dt: f64, tau: f64, k: f64, f: f64, advection: u8,
+    ) -> u32;
+    fn surge_step_all(
+        next: *mut f64, next_length: usize,
+        work: *mut f64, work_length: usize,
+        sums: *mut u64, sums_length: usize,
+        place: *mut usize, value: *mut f64,
+        step: *mut u32, accepted: *mut u32,
+        state: *const f64, state_length: usize,
+        forcings: *const f64, forcings_length: usize,
         x: *const i32, x_length: usize,
         y: *const i32, y_length: usize,
         tri: *const u16, tri_length: usize,
@@ -136,6 +151,29 @@ impl Program for Product {
             )
         };
         (r.answer(number), r.clock)
+    }
+
+    fn step_all(&self, m: &Mesh, rooms: Rooms, state: &[f64], clock: Clock, forcings: &[f64]) -> Stepped {
+        // a count that the call does not write shows
+        let (mut r, mut accepted) = (Reply::before(clock), u32::MAX);
+        let number = unsafe {
+            surge_step_all(
+                rooms.next.as_mut_ptr(), rooms.next.len(),
+                rooms.work.as_mut_ptr(), rooms.work.len(),
+                rooms.sums.as_mut_ptr(), rooms.sums.len(),
+                &mut r.place, &mut r.value,
+                &mut r.clock.step, &mut accepted,
+                state.as_ptr(), state.len(),
+                forcings.as_ptr(), forcings.len(),
+                m.x.as_ptr(), m.x.len(),
+                m.y.as_ptr(), m.y.len(),
+                m.tri.as_ptr(), m.tri.len(),
+                m.h.as_ptr(), m.h.len(),
+                m.kind.as_ptr(), m.kind.len(),
+                m.p.dt, m.p.tau, m.p.k, m.p.f, m.p.advection.into(),
+            )
+        };
+        Stepped { answer: r.answer(number), clock: r.clock, accepted }
     }
 
     fn save(&self, m: &Mesh, text: &mut [u8], state: &[f64], clock: Clock) -> Answer {

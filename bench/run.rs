@@ -40,6 +40,13 @@ impl Answer {
     }
 }
 
+/// What came of a list of forcings: the answer of the last one that was asked, the clock after those that were accepted, and their count.
+pub struct Stepped {
+    pub answer: Answer,
+    pub clock: Clock,
+    pub accepted: u32,
+}
+
 /// A mesh and its parameters, as they are lent.
 #[derive(Clone, Copy)]
 pub struct Mesh<'a> {
@@ -136,6 +143,14 @@ impl<'a> State<'a> {
         let (wx, wy) = rest.split_at(n);
         State { earlier, z, u, v, wx, wy }
     }
+
+    /// The runs into a slice of 6n.
+    pub fn write(self, numbers: &mut [f64]) {
+        let runs = [self.earlier, self.z, self.u, self.v, self.wx, self.wy];
+        for (room, run) in numbers.chunks_exact_mut(self.z.len()).zip(runs) {
+            room.copy_from_slice(run);
+        }
+    }
 }
 
 /// A forcing's elevation and its new winds.
@@ -172,11 +187,34 @@ pub struct Known<'a> {
     pub sums: &'a [u64],
 }
 
+/// A room in runs of the same length.
+pub fn runs<const RUNS: usize>(room: &mut [f64]) -> [&mut [f64]; RUNS] {
+    let mut runs = room.chunks_exact_mut(room.len() / RUNS);
+    std::array::from_fn(|_| runs.next().unwrap_or_default())
+}
+
+/// Where a step is worked out.
+pub struct Made<'a> {
+    /// z', U' and V': the first holds R before, the others Px and Py
+    pub new: [&'a mut [f64]; 3],
+    pub carried: &'a mut [[f64; 2]],
+    pub sums: &'a mut [u64],
+}
+
+impl<'a> Made<'a> {
+    /// In a work room of 5n.
+    pub fn of(work: &'a mut [f64], sums: &'a mut [u64]) -> Made<'a> {
+        let (new, carried) = work.split_at_mut(3 * sums.len());
+        Made { new: runs(new), carried: carried.as_chunks_mut().0, sums }
+    }
+}
+
 /// A program that makes the calls. The three are called through this trait alone, so that none is woven into the measuring loop.
 pub trait Program {
     fn name(&self) -> &'static str;
     fn open(&self, mesh: &Mesh, state: &mut [f64]) -> (Answer, Clock);
     fn step(&self, mesh: &Mesh, rooms: Rooms, state: &[f64], clock: Clock, forcing: &[f64]) -> (Answer, Clock);
+    fn step_all(&self, mesh: &Mesh, rooms: Rooms, state: &[f64], clock: Clock, forcings: &[f64]) -> Stepped;
     fn save(&self, mesh: &Mesh, text: &mut [u8], state: &[f64], clock: Clock) -> Answer;
     fn load(&self, mesh: &Mesh, state: &mut [f64], text: &[u8], clock: Clock) -> (Answer, Clock);
     fn read_forcing(&self, forcing: &mut [f64], text: &[u8], expected: u32) -> Answer;

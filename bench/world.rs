@@ -74,6 +74,11 @@ impl World {
         Log { forcings: (0..steps.div_ceil(HOLD)).map(|at| self.forcing(at * HOLD)).collect() }
     }
 
+    /// Another forcing at each of so many steps, one after the other in one slice.
+    pub fn list(&self, steps: usize) -> Vec<f64> {
+        (0..steps).flat_map(|step| self.forcing(step)).collect()
+    }
+
     /// The elevation, then Wx' of all nodes, then Wy' of all nodes.
     fn forcing(&self, step: usize) -> Vec<f64> {
         let time = step as f64 / 150.0;

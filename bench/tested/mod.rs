@@ -4,25 +4,39 @@ pub mod forcings;
 pub mod gauges;
 pub mod grids;
 mod lines;
+pub mod lists;
 pub mod mesh;
 pub mod saves;
 pub mod step;
 
 use crate::gauges::{Gauges, Highest, Lent, Point};
-use crate::run::{Answer, Clock, GridRooms, Mesh, Program, Rooms};
+use crate::run::{Answer, Clock, GridRooms, Mesh, Program, Rooms, Stepped};
+
+/// What a list keeps through its steps of what no step changes.
+#[derive(Clone, Copy)]
+pub enum Keeps {
+    /// every step makes the passes of a single one
+    Nothing,
+    /// S and the weights of z', in the lent room
+    Weights,
+    /// the triangles' shapes too, in memory of its own, which the product has not
+    Shapes,
+}
 
 /// In the forms that one would choose, or in those that are set for the product: row 6 by pairs of triangles, as document 01 has it, and not by the
 /// legs of each node; a grid text read twice, since the product allocates nothing, and not once into rooms of its own.
 pub struct Tested {
     pub forms_as_set: bool,
+    pub keeps: Keeps,
 }
 
 impl Program for Tested {
     fn name(&self) -> &'static str {
-        if self.forms_as_set {
-            "tested, forms as set"
-        } else {
-            "tested"
+        match (self.forms_as_set, self.keeps) {
+            (true, _) => "tested, forms as set",
+            (false, Keeps::Nothing) => "tested",
+            (false, Keeps::Weights) => "tested, weights kept",
+            (false, Keeps::Shapes) => "tested, shapes kept",
         }
     }
 
@@ -39,6 +53,11 @@ impl Program for Tested {
     #[inline(never)]
     fn step(&self, mesh: &Mesh, rooms: Rooms, state: &[f64], clock: Clock, forcing: &[f64]) -> (Answer, Clock) {
         step::step(mesh, rooms, state, clock, forcing)
+    }
+
+    #[inline(never)]
+    fn step_all(&self, mesh: &Mesh, rooms: Rooms, state: &[f64], clock: Clock, forcings: &[f64]) -> Stepped {
+        lists::step_all(self.keeps, mesh, rooms, state, clock, forcings)
     }
 
     #[inline(never)]

@@ -1,8 +1,9 @@
 //! Rows 10 to 13 and the equations. The parts of a step are functions of their own, so that each can be timed by itself.
 
 use super::mesh::{self, within};
-use crate::formulas::{new_elevation, new_velocity, shares, slope, Corner, New, Shares, Sides, Sums, Terms, HELD_LAND, OPEN};
-use crate::run::{Answer, Clock, Forcing, Known, Mesh, Rooms, State};
+use crate::fixed::{Fixed, Shapes};
+use crate::formulas::{new_elevation, new_velocity, shares, slope, Corner, New, Shape, Shares, Sums, Terms, HELD_LAND, OPEN};
+use crate::run::{Answer, Clock, Forcing, Known, Made, Mesh, Rooms, State};
 
 pub fn step(mesh: &Mesh, rooms: Rooms, state: &[f64], clock: Clock, forcing: &[f64]) -> (Answer, Clock) {
     let Rooms { next, work, sums } = rooms;
@@ -12,8 +13,8 @@ pub fn step(mesh: &Mesh, rooms: Rooms, state: &[f64], clock: Clock, forcing: &[f
     let n = mesh.nodes();
     let (state, new) = (State::of(state, n), Forcing::of(forcing, n));
     // chosen here, once, so that no loop asks for the setting
-    let solve = if mesh.p.advection { solve::<true> } else { solve::<false> };
-    let outcome = solve(mesh, work, sums, state, new);
+    let single = if mesh.p.advection { single::<true> } else { single::<false> };
+    let outcome = single(mesh, work, sums, state, new);
     if outcome.is_ok() {
         publish(next, state, work, &forcing[1..]);
     }
@@ -28,10 +29,14 @@ fn rows_1_to_12(mesh: &Mesh, lengths: [usize; 3], state: &[f64], clock: Clock, f
     let (n, [next, work, sums]) = (mesh.nodes(), lengths);
     mesh::rows_1_to_9(mesh, &[(next, 6 * n), (work, 5 * n), (sums, n), (state.len(), 6 * n), (forcing.len(), 1 + 2 * n)])?;
     row_10(mesh, state)?;
+    rows_11_and_12(clock, Forcing::of(forcing, n))
+}
+
+pub fn rows_11_and_12(clock: Clock, forcing: Forcing) -> Result<(), Answer> {
     if clock.step == u32::MAX {
         return Err(Answer::refused(11, 0));
     }
-    row_12(Forcing::of(forcing, n))
+    row_12(forcing)
 }
 
 /// Of a wind, in either direction.
@@ -74,58 +79,86 @@ pub fn row_10(mesh: &Mesh, state: &[f64]) -> Result<(), Answer> {
     Err(Answer::refused(10, node.unwrap_or(0)))
 }
 
-fn solve<const ADVECTION: bool>(mesh: &Mesh, work: &mut [f64], sums: &mut [u64], state: State, forcing: Forcing) -> Result<(), Answer> {
-    let n = mesh.nodes();
-    let terms = Terms::of(mesh.p);
-    let (first, rest) = work.split_at_mut(n);
-    let (second, rest) = rest.split_at_mut(n);
-    let (third, rest) = rest.split_at_mut(n);
-    let (carried, _) = rest.as_chunks_mut::<2>();
-    gather::<ADVECTION>(mesh, &terms, state, first, carried, sums);
-    raise(mesh, &terms, state, first, sums, forcing.elevation);
-    row_13_levels(mesh, first)?;
-    slopes(mesh, state, first, second, third);
-    flows::<ADVECTION>(mesh, &terms, state, Known { z_new: first, forcing, carried, sums }, second, third);
+/// Every node number tested where it is used.
+pub struct Checked;
+
+impl Shapes for Checked {
+    #[inline(always)]
+    fn each(&self, mesh: &Mesh, mut work: impl FnMut([usize; 3], Shape)) {
+        let n = mesh.nodes();
+        let (x, y, h) = (&mesh.x[..n], &mesh.y[..n], &mesh.h[..n]);
+        for corners in mesh.corners() {
+            work(corners, Shape::of(corners.map(|i| x[i]), corners.map(|i| y[i]), corners.map(|i| h[i])));
+        }
+    }
+}
+
+fn single<const ADVECTION: bool>(mesh: &Mesh, work: &mut [f64], sums: &mut [u64], state: State, forcing: Forcing) -> Result<(), Answer> {
+    solve::<ADVECTION, _, _>(&Fixed::of(mesh, Checked), state, forcing, Made::of(work, sums))
+}
+
+/// No part is woven into the loop over a list, where the compiler would no longer know its rooms apart.
+pub fn solve<const ADVECTION: bool, S: Shapes, const FORMED: bool>(
+    fixed: &Fixed<S, FORMED>,
+    state: State,
+    forcing: Forcing,
+    made: Made,
+) -> Result<(), Answer> {
+    let Made { new: [first, second, third], carried, sums } = made;
+    gather::<ADVECTION, S, FORMED>(fixed, state, first, carried, sums);
+    raise(fixed, state, first, sums, forcing.elevation);
+    row_13_levels(&fixed.mesh, first)?;
+    slopes(fixed, state, first, second, third);
+    flows::<ADVECTION>(&fixed.mesh, &fixed.terms, state, Known { z_new: first, forcing, carried, sums }, second, third);
     row_13_speeds(second, third)
 }
 
 /// R and S of every node, and with advection Au and Av, which stand side by side, so that one wide addition serves both.
-pub fn gather<const ADVECTION: bool>(mesh: &Mesh, terms: &Terms, state: State, r: &mut [f64], carried: &mut [[f64; 2]], sums: &mut [u64]) {
+#[inline(never)]
+pub fn gather<const ADVECTION: bool, S: Shapes, const FORMED: bool>(
+    fixed: &Fixed<S, FORMED>,
+    state: State,
+    r: &mut [f64],
+    carried: &mut [[f64; 2]],
+    sums: &mut [u64],
+) {
     r.fill(0.0);
-    sums.fill(0);
+    if !FORMED {
+        sums.fill(0);
+    }
     if ADVECTION {
         carried.fill([0.0; 2]);
     }
     // one length for all, so that one test of a node number serves every slice
-    let n = mesh.nodes();
-    let (x, y, h) = (&mesh.x[..n], &mesh.y[..n], &mesh.h[..n]);
-    let (r, carried, sums) = (&mut r[..n], &mut carried[..n], &mut sums[..n]);
+    let n = fixed.mesh.nodes();
+    let (h, r, carried, sums) = (&fixed.mesh.h[..n], &mut r[..n], &mut carried[..n], &mut sums[..n]);
     let (earlier, z, u, v) = (&state.earlier[..n], &state.z[..n], &state.u[..n], &state.v[..n]);
     let (wx, wy) = (&state.wx[..n], &state.wy[..n]);
-    for corners in mesh.corners() {
-        let sides = Sides::of(corners.map(|i| x[i]), corners.map(|i| y[i]));
-        let d = sides.twice_area();
+    fixed.each_triangle(|corners, shape| {
         let water = corners.map(|i| Corner { h: h[i], earlier: earlier[i], z: z[i], u: u[i], v: v[i], wx: wx[i], wy: wy[i] });
-        let Shares { r: given, carried: [of_u, of_v] } = shares::<ADVECTION>(terms, water, &sides, d);
+        let Shares { r: given, carried: [of_u, of_v] } = shares::<ADVECTION>(&fixed.terms, water, shape);
         for j in 0..3 {
             r[corners[j]] += given[j];
-            sums[corners[j]] += d as u64;
+            if !FORMED {
+                sums[corners[j]] += shape.d as u64;
+            }
             if ADVECTION {
                 let [au, av] = &mut carried[corners[j]];
                 *au += of_u;
                 *av += of_v;
             }
         }
-    }
+    });
 }
 
 /// R of every node becomes its z'.
-pub fn raise(mesh: &Mesh, terms: &Terms, state: State, r: &mut [f64], sums: &[u64], elevation: f64) {
-    let n = mesh.nodes();
-    let (kind, r, sums) = (&mesh.kind[..n], &mut r[..n], &sums[..n]);
+#[inline(never)]
+pub fn raise<S: Shapes, const FORMED: bool>(fixed: &Fixed<S, FORMED>, state: State, r: &mut [f64], sums: &[u64], elevation: f64) {
+    let n = fixed.mesh.nodes();
+    let (kind, r) = (&fixed.mesh.kind[..n], &mut r[..n]);
     let (earlier, z) = (&state.earlier[..n], &state.z[..n]);
-    for i in 0..n {
-        let risen = new_elevation(terms, sums[i], z[i], earlier[i], r[i]);
+    for (i, weights) in (0..n).zip(fixed.weights(sums)) {
+        let risen = new_elevation(weights, z[i], earlier[i], r[i]);
         r[i] = if kind[i] == OPEN { elevation } else { risen };
     }
 }
@@ -148,24 +181,25 @@ pub fn row_13_levels(mesh: &Mesh, z_new: &[f64]) -> Result<(), Answer> {
 }
 
 /// Px and Py of every node.
-pub fn slopes(mesh: &Mesh, state: State, z_new: &[f64], px: &mut [f64], py: &mut [f64]) {
+#[inline(never)]
+pub fn slopes<S: Shapes, const FORMED: bool>(fixed: &Fixed<S, FORMED>, state: State, z_new: &[f64], px: &mut [f64], py: &mut [f64]) {
     px.fill(0.0);
     py.fill(0.0);
-    let n = mesh.nodes();
-    let (x, y, px, py) = (&mesh.x[..n], &mesh.y[..n], &mut px[..n], &mut py[..n]);
+    let n = fixed.mesh.nodes();
+    let (px, py) = (&mut px[..n], &mut py[..n]);
     let (z, z_new) = (&state.z[..n], &z_new[..n]);
-    for corners in mesh.corners() {
-        let sides = Sides::of(corners.map(|i| x[i]), corners.map(|i| y[i]));
+    fixed.each_triangle(|corners, Shape { sides, .. }| {
         let both = corners.map(|i| z[i] + z_new[i]);
         let (along_x, along_y) = (slope(both, sides.b), slope(both, sides.a));
         for i in corners {
             px[i] += along_x;
             py[i] += along_y;
         }
-    }
+    });
 }
 
 /// Px and Py of every node become its U' and V'.
+#[inline(never)]
 pub fn flows<const ADVECTION: bool>(mesh: &Mesh, terms: &Terms, state: State, known: Known, px: &mut [f64], py: &mut [f64]) {
     let n = mesh.nodes();
     let (kind, h, px, py) = (&mesh.kind[..n], &mesh.h[..n], &mut px[..n], &mut py[..n]);
