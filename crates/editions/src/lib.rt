@@ -1,4 +1,5 @@
 // The lines of a save, in either edition: of which edition a text is, what is due at a line, and what is asked of one.
+#![tactic(auto)]
 ghost use Rattle.std.specs.Prelude.{◌≡◌, ◌≤◌};
 ghost use Rattle.rows.specs.Scan.{◌then◌};
 ghost use Rattle.frames.specs.Texts.{due};
@@ -12,7 +13,7 @@ use quantities::{Parameters, Wind};
 use rows::Answer;
 
 // The editions of a save.
-#[derive(Drop)]
+#[derive(Clone, Copy)]
 pub enum Edition {
     One,
     Two,
@@ -30,7 +31,7 @@ pub fn edition_of(text: &[u8]) -> Edition
 }
 
 // A kind of line: its digits and its kind byte.
-#[derive(Drop)]
+#[derive(Clone, Copy)]
 pub struct LineKind {
     pub digits: usize,
     pub kind: u8,

@@ -1,6 +1,7 @@
 // Example 13 of document 01, with its wind at every node: two steps on mesh T from a cold start. Each number of the state after each step is written as
 // its binary64 pattern, one a line, and last the clock's step number. The file `stdout` beside src/ holds what the independent second program gives. Standard
 // error says of a write that fails why it did.
+#![tactic(auto)]
 use libc::STDOUT_FILENO;
 use quantities::Parameters;
 

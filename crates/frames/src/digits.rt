@@ -39,7 +39,7 @@ pub(crate) fn frame(out: &mut [u8], text: &[u8])
 }
 
 // The sum of a text's bytes, modulo 256, and whether they are made of digits.
-#[derive(Drop)]
+#[derive(Clone, Copy)]
 pub struct Tally {
     pub sum: u16,
     pub right: bool,

@@ -1,11 +1,12 @@
 // Triangle geometry on single values, in whole numbers; a node's sum also as a float, without loss. No slice is lent to any function here, and no public one asks anything of its caller.
+#![tactic(auto)]
 ghost use Rattle.std.specs.Prelude.{◌≡◌, pos, ◌-ℤ◌};
 ghost use Rattle.std.specs.Float.Ieee.{of_int};
 ghost use Rattle.std.specs.Float.{binary64};
 ghost use Rattle.geometry.specs.Geometry.{sides_at, near, all_near, near_d};
 
 // The node numbers of a triangle's corners 1, 2 and 3.
-#[derive(Drop)]
+#[derive(Clone, Copy)]
 pub struct Corners {
     pub n1: usize,
     pub n2: usize,
@@ -13,7 +14,7 @@ pub struct Corners {
 }
 
 // The coordinates of a triangle's corners 1, 2 and 3.
-#[derive(Drop)]
+#[derive(Clone, Copy)]
 pub struct Places {
     pub x1: i32,
     pub x2: i32,
@@ -24,7 +25,7 @@ pub struct Places {
 }
 
 // The a and b of one triangle, in whole metres.
-#[derive(Drop)]
+#[derive(Clone, Copy)]
 pub struct WholeSides {
     pub a1: i64,
     pub a2: i64,

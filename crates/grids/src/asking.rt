@@ -12,7 +12,7 @@ use lists::slices;
 use rows::Answer;
 
 // What was answered, and where the next line starts.
-#[derive(Drop)]
+#[derive(Clone, Copy)]
 struct Asked {
     answer: Answer,
     next: usize,

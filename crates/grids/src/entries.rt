@@ -8,7 +8,7 @@ use crate::fields::{Depth, Whole};
 use crate::{fields, scanning};
 
 // "a line with E and N"
-#[derive(Drop)]
+#[derive(Clone, Copy)]
 pub(crate) struct Counts {
     pub(crate) fine: bool,
     pub(crate) e: u64,
@@ -17,7 +17,7 @@ pub(crate) struct Counts {
 }
 
 // "node lines (number, x, y, depth)"
-#[derive(Drop)]
+#[derive(Clone, Copy)]
 pub(crate) struct NodeLine {
     pub(crate) fine: bool,
     pub(crate) number: u64,
@@ -28,7 +28,7 @@ pub(crate) struct NodeLine {
 }
 
 // "triangle lines (number, 3, three node numbers from 1)". No two corners stand side by side: they would be loaded as one before they are in memory.
-#[derive(Drop)]
+#[derive(Clone, Copy)]
 pub(crate) struct TriangleLine {
     pub(crate) fine: bool,
     pub(crate) first: u64,

@@ -6,14 +6,14 @@ use crate::scanning;
 use crate::scanning::Digits;
 
 // A number after an optional minus.
-#[derive(Drop)]
+#[derive(Clone, Copy)]
 pub(crate) struct Whole {
     pub(crate) minus: bool,
     pub(crate) size: u64,
 }
 
 // A depth. It is `short` where it has at most nine whole digits and three decimals, and its size is then in thousandths.
-#[derive(Drop)]
+#[derive(Clone, Copy)]
 pub(crate) struct Depth {
     pub(crate) fine: bool,
     pub(crate) minus: bool,

@@ -1,4 +1,5 @@
 // The grid format that harbour modellers send: a mesh from a text.
+#![tactic(auto)]
 pub(crate) mod asking;
 pub(crate) mod entries;
 pub(crate) mod fields;

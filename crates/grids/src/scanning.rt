@@ -8,14 +8,14 @@ ghost use Rattle.grids.specs.Private.{most, GapSeen, DigitsSeen};
 const MOST: u64 = 1800000000000000000;
 
 // Spaces: where they end, and the byte there, a line feed for the text's end.
-#[derive(Drop)]
+#[derive(Clone, Copy)]
 pub(crate) struct Gap {
     pub(crate) end: usize,
     pub(crate) stop: u8,
 }
 
 // A run of digits: its value, or MOST where that is as much or more, where it ends, and the byte there.
-#[derive(Drop)]
+#[derive(Clone, Copy)]
 pub(crate) struct Digits {
     pub(crate) value: u64,
     pub(crate) end: usize,

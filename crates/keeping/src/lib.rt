@@ -1,4 +1,5 @@
 // The peak record: what it holds, its refusals, and what is written into it.
+#![tactic(auto)]
 ghost use Rattle.std.specs.Prelude.{◌≡◌, ◌+◌, ◌*◌, ◌<◌, ◌≤◌, get_or};
 ghost use Rattle.std.specs.Float.{nan};
 ghost use Rattle.keeping.specs.Record.{row_bytes, field_in, seen_field, count_in, point_in, points_in, mark_in, with_mark, with_point, added, noted, all_noted, row43, keeps};
@@ -24,7 +25,7 @@ const PEAK: usize = 9;
 const STEP: usize = 17;
 
 // What a record has of a gauge: whether a state was seen, the highest elevation so far, and the first step that had it.
-#[derive(Drop)]
+#[derive(Clone, Copy)]
 pub struct Mark {
     pub seen: u8,
     pub peak: f64,
@@ -32,7 +33,7 @@ pub struct Mark {
 }
 
 // The answer to a gauge that is added, and the number given out.
-#[derive(Drop)]
+#[derive(Clone, Copy)]
 pub struct Given {
     pub answer: Answer,
     pub gauge: u32,

@@ -10,14 +10,14 @@ ghost use Rattle.location.specs.Location.{weights, elevation, weights_at, contai
 use geometry::{Places, WholeSides};
 
 // A point in whole metres.
-#[derive(Drop)]
+#[derive(Clone, Copy)]
 pub struct Point {
     pub x: i32,
     pub y: i32,
 }
 
 // The three doubled sub-areas of a point in a triangle, each named for the corner it lies opposite, and D.
-#[derive(Drop)]
+#[derive(Clone, Copy)]
 pub struct Weights {
     pub w1: i64,
     pub w2: i64,
@@ -26,7 +26,7 @@ pub struct Weights {
 }
 
 // The triangle that contains a point, and the elevation there.
-#[derive(Drop)]
+#[derive(Clone, Copy)]
 pub struct Sighting {
     pub triangle: usize,
     pub level: f64,

@@ -1,5 +1,6 @@
 // What is seen at points, in a mesh and a state that are lent as bytes. They are decoded into arrays of full size, and what a step asks of its slices is
 // asked of these.
+#![tactic(auto)]
 ghost use Rattle.std.specs.Prelude.{◌≡◌, length};
 ghost use Rattle.location.specs.Survey.{survey_of};
 ghost use Rattle.looking.specs.Lent.{Lent, lent, mesh_in, state_in, row1_bytes};
@@ -12,7 +13,7 @@ use quantities::Parameters;
 use rows::Answer;
 
 // What is seen at one point: the rows' answer, and where they accept the triangle, whether there is one, and the elevation.
-#[derive(Drop)]
+#[derive(Clone, Copy)]
 pub struct Sight {
     pub answer: Answer,
     pub triangle: u32,

@@ -1,11 +1,12 @@
 // Row 13 of the refusal table on single values: what becomes of a node, and the answer for it.
+#![tactic(auto)]
 ghost use Rattle.std.specs.Prelude.{◌≡◌};
 ghost use Rattle.outcomes.specs.Outcomes.{of_rise, speed, of_east, of_north, answer_of, rise_row, flow_row};
 
 use quantities::Flow;
 
 // What becomes of a node: the value that is accepted, or the quantity that left its range: z', H', U' or V'.
-#[derive(Drop)]
+#[derive(Clone, Copy)]
 pub enum Outcome {
     Accepted(f64),
     Elevation(f64),

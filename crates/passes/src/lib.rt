@@ -1,4 +1,5 @@
 // The engine by triangles: row 13 and the equations, after what a call asks.
+#![tactic(auto)]
 pub(crate) mod elevations;
 pub(crate) mod reading;
 pub(crate) mod state;
@@ -31,7 +32,7 @@ pub const WORK_RUNS: usize = 5;
 pub const LIST_RUNS: usize = 11;
 
 // What a list hands back: the answer, the step number, and how many of its steps were accepted.
-#[derive(Drop)]
+#[derive(Clone, Copy)]
 pub struct Progress {
     pub answer: Answer,
     pub step: u32,

@@ -21,7 +21,7 @@ use quantities::{Flow, Parameters, Sides};
 use rows::Answer;
 
 // What a triangle adds to Px and to Py of its corners.
-#[derive(Drop)]
+#[derive(Clone, Copy)]
 pub struct Slope {
     pub x: f64,
     pub y: f64,

@@ -2,6 +2,7 @@
 // first refusal. What is printed for an input is `printed` of forcelog's specs. A forcing's first two bytes say how many it has, and it is
 // read whole: forcelog's law `by_wholes` says that this prints the same as cutting the input at its line feeds. A read that fails is no end of input:
 // nothing is printed then, and standard error says why, as it does of a write that fails.
+#![tactic(auto)]
 ghost use Rattle.std.specs.Prelude.{◌≤◌, ◌≡◌, length};
 ghost use Rattle.io.specs.Counts.{IsPrefixLen};
 ghost use Rattle.forcelog.specs.Printed.{ending, due_of};
@@ -23,7 +24,7 @@ fn save_text(log: Log) -> [u8; 442]
 }
 
 // How many bytes of a text are there, and whether the read that ended them failed.
-#[derive(Drop)]
+#[derive(Clone, Copy)]
 struct Got {
     len: usize,
     failed: bool,

@@ -1,10 +1,11 @@
 // What the formulas of document 01 read and give, as records, and the arithmetic on them.
+#![tactic(auto)]
 
 // The acceleration of gravity, g.
 pub const G: f64 = 9.81;
 
 // The parameters of a run: time step, the report's tau-zero, linear bottom friction K, Coriolis f, and whether the advective terms are on.
-#[derive(Drop)]
+#[derive(Clone, Copy)]
 pub struct Parameters {
     pub dt: f64,
     pub tau: f64,
@@ -14,14 +15,14 @@ pub struct Parameters {
 }
 
 // A wind: stress over density.
-#[derive(Drop)]
+#[derive(Clone, Copy)]
 pub struct Wind {
     pub x: f64,
     pub y: f64,
 }
 
 // What a node lends to a triangle: depth, earlier elevation, present elevation, U, V, and the wind that it holds.
-#[derive(Drop)]
+#[derive(Clone, Copy)]
 pub struct Node {
     pub h: f64,
     pub earlier: f64,
@@ -33,7 +34,7 @@ pub struct Node {
 }
 
 // a, b and D of one triangle.
-#[derive(Drop)]
+#[derive(Clone, Copy)]
 pub struct Sides {
     pub a1: f64,
     pub a2: f64,
@@ -45,7 +46,7 @@ pub struct Sides {
 }
 
 // What the three corners of a triangle receive.
-#[derive(Drop)]
+#[derive(Clone, Copy)]
 pub struct Shares {
     pub r1: f64,
     pub r2: f64,
@@ -53,7 +54,7 @@ pub struct Shares {
 }
 
 // What a node's velocity is made from: depth, z and z', U and V, Px and Py, Au and Av, S, the wind that is held and the new one.
-#[derive(Drop)]
+#[derive(Clone, Copy)]
 pub struct Push {
     pub h: f64,
     pub z: f64,
@@ -72,7 +73,7 @@ pub struct Push {
 }
 
 // U' and V'.
-#[derive(Drop)]
+#[derive(Clone, Copy)]
 pub struct Flow {
     pub u: f64,
     pub v: f64,

@@ -1,10 +1,11 @@
 // What a row of the refusal table answers.
+#![tactic(auto)]
 ghost use Rattle.std.specs.Prelude.{◌≡◌};
 ghost use Rattle.rows.specs.Numbers.{within};
 ghost use Rattle.rows.specs.Scan.{accepted, refused, row, ◌then◌};
 
 // Number, place and value. Number 0 accepts.
-#[derive(Drop)]
+#[derive(Clone, Copy)]
 pub struct Answer {
     pub number: u32,
     pub place: usize,

@@ -1,4 +1,5 @@
 // Saves: the text of a run.
+#![tactic(auto)]
 pub(crate) mod writing;
 
 ghost use Rattle.std.specs.Prelude.{◌≡◌};

@@ -1,4 +1,5 @@
 // The storm-surge run of document 01: the calls that are made on it, and what goes into them and comes back.
+#![tactic(auto)]
 ghost use Rattle.std.specs.Prelude.{◌≡◌, ◌<◌};
 ghost use Rattle.mesh.specs.Lent.{mesh};
 ghost use Rattle.passes.specs.Settle.{lent_rooms};
@@ -13,7 +14,7 @@ use quantities::Parameters;
 use rows::Answer;
 
 // The step number.
-#[derive(Drop)]
+#[derive(Clone, Copy)]
 pub struct Clock {
     pub step: u32,
 }
@@ -37,14 +38,14 @@ impl Clock {
 }
 
 // What a call on a run hands back.
-#[derive(Drop)]
+#[derive(Clone, Copy)]
 pub struct Reply {
     pub answer: Answer,
     pub clock: Clock,
 }
 
 // What a call on a list of forcings hands back, with the count of accepted steps.
-#[derive(Drop)]
+#[derive(Clone, Copy)]
 pub struct ListReply {
     pub reply: Reply,
     pub accepted: u32,

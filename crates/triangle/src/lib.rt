@@ -1,11 +1,12 @@
 // The gradients and means of one triangle, as one record.
+#![tactic(auto)]
 ghost use Rattle.std.specs.Prelude.{◌≡◌};
 ghost use Rattle.triangle.specs.Triangle.{mean, slope, means, advection};
 
 use quantities::{Node, Sides};
 
 // hb, Ub, Vb, Z, Qx, Qy, Gx, Gy, Sx and Sy; Xu, Yu, Xv and Yv; the means of the winds, Wx and Wy.
-#[derive(Drop)]
+#[derive(Clone, Copy)]
 pub struct Means {
     pub hb: f64,
     pub ub: f64,
@@ -26,7 +27,7 @@ pub struct Means {
 }
 
 // What a triangle adds to Au and to Av of its corners.
-#[derive(Drop)]
+#[derive(Clone, Copy)]
 pub struct Advection {
     pub u: f64,
     pub v: f64,
