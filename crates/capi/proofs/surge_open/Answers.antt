@@ -1,0 +1,7 @@
+use Rattle.capi.proofs.HandLaws.{after_handed}
+use borrow.Author.Rules.{rules}
+use Rattle.capi.proofs.surge_open.Goals as goal
+
+pub returns : goal.returns
+returns c =
+    after_handed _ _ c.hand_back.ensures _ _ (rw (c.open-opened.ensures, c.parameters-p.ensures))

@@ -1,0 +1,5 @@
+use borrow.Author.Rules.{rules}
+use Rattle.capi.proofs.surge_read_grid.Goals as goal
+
+pub returns : goal.returns
+returns c = c.read_grid-read.ensures

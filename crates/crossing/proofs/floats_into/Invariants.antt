@@ -1,0 +1,15 @@
+use Prim.Native.Nat.{◌≤◌, ◌-◌}
+use mathlib.Core.Path.{◌≡◌, sym, ap, ◌∙◌}
+use native.Mathlib.Omega.{arith}
+use lib.ListN.{length}
+use lib.Ieee.{binary64, of_bits}
+use Rattle.lists.specs.Private.{up_to}
+use Rattle.lists.proofs.TableLaws.{up_none, fill_more, fill_length}
+use Rattle.crossing.proofs.CrossLaws.{element, filled_whole}
+use Rattle.crossing.proofs.floats_into.Given as goal
+
+abbrev pub invariant-loop-i : goal.invariant-loop-i
+invariant-loop-i l = (l.i ≤ l.n) × (l.to ≡ up_to l.i (element 8 (of_bits binary64) l.from) l.initial.to)
+
+abbrev pub decreases-loop-i : goal.decreases-loop-i
+decreases-loop-i l = l.n - l.i

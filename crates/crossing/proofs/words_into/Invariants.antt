@@ -1,0 +1,14 @@
+use Prim.Native.Nat.{◌≤◌, ◌-◌}
+use mathlib.Core.Path.{◌≡◌, sym, ◌∙◌}
+use native.Mathlib.Omega.{arith}
+use lib.ListN.{length}
+use Rattle.lists.specs.Private.{up_to}
+use Rattle.lists.proofs.TableLaws.{up_none, fill_more, fill_length}
+use Rattle.crossing.proofs.CrossLaws.{element, filled_whole}
+use Rattle.crossing.proofs.words_into.Given as goal
+
+abbrev pub invariant-loop-i : goal.invariant-loop-i
+invariant-loop-i l = (l.i ≤ l.n) × (l.to ≡ up_to l.i (element 2 (λ v. v) l.from) l.initial.to)
+
+abbrev pub decreases-loop-i : goal.decreases-loop-i
+decreases-loop-i l = l.n - l.i

@@ -1,0 +1,63 @@
+use Rattle.std.proofs.Common.{◌≡◌, ◌+◌, ◌-◌, ◌/◌, ◌^◌, ◌<◌, ◌≤◌, ◌⊎◌, length, take, drop, sym, refl, ap, inl, inr, ⊎_elim, arith, drop_of_length-le, le-leb}
+use borrow.Author.Tests.{lt-leb}
+use lib.Seq.{take-nil}
+use Rattle.frames.specs.Bytes.{bytes, number}
+use Rattle.frames.specs.Reading.{value}
+use Rattle.frames.proofs.ByteLaws.{bytes_length, number_room, number_grows, number_more, number_ends}
+use Rattle.frames.proofs.reading.value.Goals as goal
+use Rattle.frames.proofs.reading.value.Goals.{In-loop-k, Joined-width-rest}
+
+-- the bytes that are read are at most the field's, and stand within the line
+within : (c : Joined-width-rest)
+    → let a = c.args in
+    (c.if-width-rest.count ≤ a.width) × (a.at + c.if-width-rest.count ≤ length a.line.now / 2) × ((c.if-width-rest.count ≡ a.width) ⊎ (length a.line.now / 2 ≤ a.at + c.if-width-rest.count))
+within c = ⊎_elim (λ w. (omega arith, omega arith, inl (omega arith))) (λ w. (omega arith, omega arith, inr (omega arith))) c.if-width-rest.branch
+
+small : (c : In-loop-k) → c.loop-k.v < 256 ^ 7
+small c =
+    let within : let a = c.args in (c.if-width-rest.count ≤ a.width) × (a.at + c.if-width-rest.count ≤ length a.line.now / 2) × ((c.if-width-rest.count ≡ a.width) ⊎ (length a.line.now / 2 ≤ a.at + c.if-width-rest.count)) = ⊎_elim (λ w. (omega arith, omega arith, inl (omega arith))) (λ w. (omega arith, omega arith, inr (omega arith))) c.if-width-rest.branch in
+    number_room _ _ c.loop-k.invariant.1 (omega (arith, within))
+
+pub returns-then-bytes-at : goal.returns-then-bytes-at
+unfolding value number
+returns-then-bytes-at c =
+    let a = c.args in
+    let h : length (bytes a.line.now) ≤ a.at = rw bytes_length (omega arith) in
+    rw (le-leb a.width 8 (omega arith), drop_of_length-le (bytes a.line.now) h) (ap number (sym (take-nil a.width)))
+
+pub loop-k-preserved : goal.loop-k-preserved
+loop-k-preserved c =
+    let a = c.args in
+    let w = within (goal.at.loop-k-preserved c).Joined-width-rest in
+    let l : a.at + c.loop-k.k < length (bytes a.line.now) = rw bytes_length (omega arith) in
+    (omega arith, number_grows _ _ _ c.loop-k.invariant.1 c.byte_at.ensures.1, rw (c.loop-k.invariant.2, c.byte_at.ensures.0) (sym (number_more (bytes a.line.now) a.at c.loop-k.k l)))
+
+pub returns : goal.returns
+unfolding value
+returns c =
+    let a = c.args in
+    let w = within (goal.at.returns c).Joined-width-rest in
+    let n = bytes_length a.line.now in
+    rw (le-leb a.width 8 (omega arith), c.loop-k.invariant.2)
+    (number_ends (bytes a.line.now) a.at c.loop-k.k a.width (omega arith) (⊎_elim (λ e. inl (omega arith)) (λ e. inr (omega arith)) w.2))
+
+pub returns-then-width-gt8 : goal.returns-then-width-gt8
+returns-then-width-gt8 c = rw (lt-leb _ _ c.if-width-gt8.true)
+
+pub loop-k-init : goal.loop-k-init
+loop-k-init c = (omega arith, omega arith, refl)
+
+pub overflow_mul-v : goal.overflow_mul-v
+overflow_mul-v c = omega (arith, small (goal.at.overflow_mul-v c).In-loop-k)
+
+pub overflow_add-at : goal.overflow_add-at
+overflow_add-at c = omega (arith, within (goal.at.overflow_add-at c).Joined-width-rest)
+
+pub byte_at-requires : goal.byte_at-requires
+byte_at-requires c = omega (arith, within (goal.at.byte_at-requires c).Joined-width-rest)
+
+pub overflow_add-v : goal.overflow_add-v
+overflow_add-v c = omega (arith, small (goal.at.overflow_add-v c).In-loop-k)
+
+pub overflow_add-k : goal.overflow_add-k
+overflow_add-k c = omega (arith, within (goal.at.overflow_add-k c).Joined-width-rest)

@@ -1,0 +1,22 @@
+use Rattle.std.proofs.Common.{◌≡◌, ◌∙◌, rules}
+use Rattle.rows.proofs.ScanLaws.{same_number}
+use Rattle.grids.proofs.RowLaws.{triangle_tested, triangle_row, line_next}
+use Rattle.grids.proofs.asking.triangle_row.Goals as goal
+
+pub returns : goal.returns
+returns c =
+    let a = c.args in
+    let few = c.requires.1 in
+    let seen = c.triangle_at_lem.ensures in
+    let tested : c.first-2.result ≡ triangle_tested a.n a.k seen few =
+    rw (
+      c.first-2.ensures,
+      c.first.ensures,
+      c.tested-named.ensures,
+      c.tested-order.ensures,
+      c.tested-formed.ensures,
+      c.is_corner-3.ensures,
+      c.is_corner-2.ensures,
+      c.is_corner_lem.ensures,
+    ) in
+    (tested ∙ triangle_row a.n a.k seen few, λ e. line_next seen.seen _ _ (same_number tested e))

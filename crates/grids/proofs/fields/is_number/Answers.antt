@@ -1,0 +1,5 @@
+use Rattle.std.proofs.Common.{rules}
+use Rattle.grids.proofs.fields.is_number.Goals as goal
+
+pub returns : goal.returns
+returns c = rw c.is_end_lem.ensures

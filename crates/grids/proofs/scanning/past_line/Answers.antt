@@ -1,0 +1,16 @@
+use Rattle.std.proofs.Common.{◌≡◌, ◌-◌, length, drop, sym, refl, ◌∙◌, arith, rules}
+use Rattle.grids.specs.Numbers.{after_first}
+use Rattle.grids.proofs.LeftLaws.{line_more, line_last, line_end}
+use Rattle.grids.proofs.scanning.past_line.Goals as goal
+
+pub returns-then-text-at-eq10 : goal.returns-then-text-at-eq10
+returns-then-text-at-eq10 c = sym (line_last _ _ c.loop-at-test.true c.if-text-at-eq10.true) ∙ c.loop-at.invariant
+
+pub loop-at-preserved : goal.loop-at-preserved
+loop-at-preserved c = sym (line_more _ _ c.loop-at-test.true c.if-text-at-eq10.false) ∙ c.loop-at.invariant
+
+pub returns : goal.returns
+returns c = sym (line_end _ _ c.loop-at-test.false) ∙ c.loop-at.invariant
+
+pub loop-at-init : goal.loop-at-init
+loop-at-init c = refl

@@ -1,0 +1,14 @@
+use Prim.Native.Nat.{ℕ, ◌-◌, ◌≤◌}
+use mathlib.Core.Path.{◌≡◌, sym, ap, ◌∙◌}
+use native.Mathlib.Omega.{arith}
+use lib.ListN.{length, get_or}
+use lib.Ieee.{nan}
+use Rattle.keeping.specs.Record.{noted, all_noted}
+use Rattle.keeping.proofs.RecordLaws.{noted_none, noted_more, all_length}
+use Rattle.keeping.proofs.note_all.Given as goal
+
+abbrev pub invariant-loop-g : goal.invariant-loop-g
+invariant-loop-g l = (l.g ≤ l.count) × (l.kept ≡ all_noted (λ k. get_or l.level k nan) l.step l.g l.initial.kept)
+
+abbrev pub decreases-loop-g : goal.decreases-loop-g
+decreases-loop-g l = l.count - l.g

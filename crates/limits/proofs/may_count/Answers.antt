@@ -1,0 +1,7 @@
+use Rattle.limits.specs.Limits.{row11}
+use borrow.Author.Rules.{rules}
+use Rattle.limits.proofs.may_count.Goals as goal
+
+pub returns : goal.returns
+unfolding row11
+returns c = c.tested.ensures

@@ -1,0 +1,16 @@
+use Prim.Native.Nat.{◌≤◌, ◌-◌}
+use mathlib.Core.Path.{◌≡◌, sym, ap, ◌∙◌}
+use native.Mathlib.Omega.{arith}
+use borrow.Author.Rules.{rules}
+use lib.ListN.{length}
+use lib.Ieee.{of_bits}
+use Rattle.rows.specs.Numbers.{plus0}
+use Rattle.lists.specs.Private.{up_to}
+use Rattle.lists.proofs.TableLaws.{up_none, up_more, up_length, up_all}
+use Rattle.lists.proofs.slices.clear.Given as goal
+
+abbrev pub invariant-loop-i : goal.invariant-loop-i
+invariant-loop-i l = (l.i ≤ l.n) × (l.s ≡ up_to l.i (λ _. plus0) l.initial.s)
+
+abbrev pub decreases-loop-i : goal.decreases-loop-i
+decreases-loop-i l = l.n - l.i

@@ -1,0 +1,7 @@
+use borrow.Author.Rules.{rules}
+use Rattle.loads.specs.Load.{trailing_row}
+use Rattle.loads.proofs.loading.trailing.Goals as goal
+
+pub returns : goal.returns
+unfolding trailing_row
+returns c = rw (c.tested.ensures, c.line_count.ensures, c.whole.ensures)

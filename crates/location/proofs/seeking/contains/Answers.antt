@@ -1,0 +1,18 @@
+use Rattle.std.proofs.Common.{◌≡◌, ◌^◌, ◌<◌, ◌&&◌, ℤ, pos, refl, ap, ◌∙◌, w64, to_z, of_z, rules}
+use lib.Signed.{mag, le_z}
+use Rattle.geometry.proofs.SizeLaws.{kept}
+use Rattle.location.specs.Location.{none_negative}
+use Rattle.location.proofs.seeking.contains.Goals as goal
+
+-- the test of a field that was handed on as bits
+part : (v : ℤ) → mag v < 2 ^ 63 → le_z (pos 0) (to_z w64 (of_z w64 v)) ≡ le_z (pos 0) v
+part v ok = ap (le_z (pos 0)) (kept {r = v} ok refl)
+
+pub returns : goal.returns
+unfolding none_negative
+returns c =
+    let w = c.weights_at-w.result in
+    (λ i. part w.w1 c.struct_told-1.given.0.1 i
+    && part w.w2 c.struct_told-2-1.given.1.0.1 i
+    && part w.w3 c.struct_told-3-1.given.1.1.0.1 i)
+    ∙ ap none_negative c.weights_at-w.ensures

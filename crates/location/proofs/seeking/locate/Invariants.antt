@@ -1,0 +1,11 @@
+use Rattle.std.proofs.Common.{◌≡◌, ℕ, ◌-◌, ◌<◌, ◌≤◌, false, sym, ◌∙◌, arith, rules, below_none, below_more}
+use Rattle.location.specs.Location.{contains, triangle_of}
+use Rattle.location.proofs.LowestLaws.{lowest_hit, lowest_none}
+use Rattle.location.proofs.seeking.locate.Given as goal
+
+-- no triangle that was passed contains the point
+abbrev pub invariant-loop-t : goal.invariant-loop-t
+invariant-loop-t l = (l.t ≤ l.e) × ((k : ℕ) → k < l.t → contains l.x l.y l.tri l.p k ≡ false)
+
+abbrev pub decreases-loop-t : goal.decreases-loop-t
+decreases-loop-t l = l.e - l.t

@@ -1,0 +1,8 @@
+use mathlib.Core.Path.{◌∙◌}
+use borrow.Author.Rules.{rules}
+use Rattle.passes.proofs.SettleLaws.{published}
+use Rattle.passes.proofs.turns.replace.Goals as goal
+
+pub returns : goal.returns
+returns c =
+    c.write_new.ensures ∙ rw c.age.ensures (published _ _ _ _ _ _ _ _ c.requires.0)

@@ -1,0 +1,169 @@
+use Prim.Native.Nat.{ℕ, ◌-◌, ◌*◌, ◌≤◌}
+use mathlib.Core.Path.{◌≡◌, refl, sym, ap, ◌∙◌}
+use native.Mathlib.Nat.{le_antisymm}
+use borrow.Author.Count.{falls}
+use borrow.Author.Rules.{zero≤}
+use lib.Dec.{T, ltb, eqb}
+use lib.ListN.{length, length-set}
+use Rattle.rows.specs.declared.Answer.{Answer}
+use Rattle.rows.specs.Scan.{scan}
+use Rattle.rows.proofs.ScanLaws.{all_none, all_more, all_accept}
+use Rattle.lists.proofs.TableLaws.{length_table}
+use Rattle.lists.proofs.RunLaws.{runs_length}
+use Rattle.mesh.specs.Lent.{mesh}
+use Rattle.passes.specs.Equations.{Given, given, count, flow_at}
+use Rattle.outcomes.specs.Outcomes.{flow_row}
+use Rattle.passes.specs.Settle.{work_runs}
+use Rattle.passes.specs.Private.{Fits, flow_room}
+use Rattle.passes.proofs.PassLaws.{Place, place, turn, flows_to, its_flow, flow_more, flow_none, flow_all}
+use Rattle.passes.proofs.velocities.flows.Goals as goal
+use Rattle.passes.proofs.velocities.flows.Goals.{After-loop-i, At-loop-i, Start}
+
+-- row 13 of U' and V' at a node
+abbrev row_at : Given → ℕ → Answer
+row_at g i = flow_row (flow_at g i) i
+
+abbrev its : Start → Given
+its s = let a = s.args in given (mesh a.x.now a.y.now a.tri.now a.h.now a.kind.now) a.p a.state.now a.elevation a.winds.now
+
+abbrev here : At-loop-i → Given
+here l = (let a = l.args in given (mesh a.x.now a.y.now a.tri.now a.h.now a.kind.now) a.p a.state.now a.elevation a.winds.now)
+
+fits : (l : At-loop-i) → Fits (here l)
+fits l = l.requires.0
+
+-- the room's length, so that each place of its runs is within it
+long : (l : At-loop-i) → length l.loop-i.work ≡ work_runs * length l.args.x.now
+long l = ap length l.loop-i.invariant.1.0 ∙ runs_length _ _
+
+same : (l : At-loop-i) → length l.loop-i.work ≡ length l.args.work.now
+same l = long l ∙ sym (ap length l.requires.1.0 ∙ runs_length _ _)
+
+-- after the last turn every U' and V' stands in the room
+done : (c : After-loop-i) → c.loop-i.i ≡ count (((let a = c.args in given (mesh a.x.now a.y.now a.tri.now a.h.now a.kind.now) a.p a.state.now a.elevation a.winds.now)))
+done c = le_antisymm c.loop-i.invariant.0 c.loop-i-test.false
+
+all : (c : After-loop-i) → c.loop-i.work ≡ flow_room (((let a = c.args in given (mesh a.x.now a.y.now a.tri.now a.h.now a.kind.now) a.p a.state.now a.elevation a.winds.now)))
+all c = let g = ((let a = c.args in given (mesh a.x.now a.y.now a.tri.now a.h.now a.kind.now) a.p a.state.now a.elevation a.winds.now)) in c.loop-i.invariant.1.0 ∙ ap (flows_to g) (done c) ∙ flow_all g
+
+-- place i of run k
+at : (t : tie.In-loop) (k : ℕ) → T (ltb k work_runs) → Place k (length t.args.x.now) t.loop-i.i (length t.loop-i.work)
+at t k h = place k work_runs h t.loop-i-test.true (long) (same) t.well-formed.0.1
+
+pub loop-i-preserved : goal.loop-i-preserved
+loop-i-preserved c =
+    let g = here (goal.at.loop-i-preserved c).At-loop-i in
+    let i = c.loop-i.i in
+    let h = c.loop-i-test.true in
+    let r = its_flow g (fits (goal.at.loop-i-preserved c).At-loop-i) i h c.requires.1.1 c.loop-i.invariant.1.0 c.flow_at-v.ensures in
+    let asked = c.flow_row.ensures ∙ (λ j. flow_row (r j) i) in
+    ((turn h c.well-formed.1.1.0.0).next, (flow_more g (fits (goal.at.loop-i-preserved c).At-loop-i) i h c.loop-i.invariant.1.0 r, all_more (row_at g) i c.loop-i.invariant.1.1 (ap (λ (a : Answer). eqb c.number 0) asked)))
+
+pub returns-then-all : goal.returns-then-all
+returns-then-all c =
+    (c.accept.ensures ∙ all_accept (row_at (here (goal.at.returns-then-all c).At-loop-i)) _ c.loop-i.invariant.1.1 c.if-all.true ∙ ap (scan _) (done (goal.at.returns-then-all c).After-loop-i), all (goal.at.returns-then-all c).After-loop-i)
+
+pub returns-else-all : goal.returns-else-all
+returns-else-all c = (c.refused_flow.ensures (here (goal.at.returns-else-all c).At-loop-i) (all (goal.at.returns-else-all c).After-loop-i) refl, all (goal.at.returns-else-all c).After-loop-i)
+
+pub loop-i-init : goal.loop-i-init
+loop-i-init c = (zero≤, (c.requires.1.0 ∙ flow_none (its (goal.at.loop-i-init c).Start), all_none _))
+
+pub overflow_mul-z : goal.overflow_mul-z
+overflow_mul-z c = (at c 0 tt).run
+
+pub overflow_add-z : goal.overflow_add-z
+overflow_add-z c = (at c 0 tt).at
+
+pub offset_bounds-work-n : goal.offset_bounds-work-n
+offset_bounds-work-n c = (at c 0 tt).bytes
+
+pub bounds-work-n : goal.bounds-work-n
+bounds-work-n c = (at c 0 tt).within
+
+pub overflow_mul-px : goal.overflow_mul-px
+overflow_mul-px c = (at c 1 tt).run
+
+pub overflow_add-px : goal.overflow_add-px
+overflow_add-px c = (at c 1 tt).at
+
+pub offset_bounds-work-n-in-loop-i : goal.offset_bounds-work-n-in-loop-i
+offset_bounds-work-n-in-loop-i c = (at c 1 tt).bytes
+
+pub bounds-work-n-in-loop-i : goal.bounds-work-n-in-loop-i
+bounds-work-n-in-loop-i c = (at c 1 tt).within
+
+pub overflow_mul-py : goal.overflow_mul-py
+overflow_mul-py c = (at c 2 tt).run
+
+pub overflow_add-py : goal.overflow_add-py
+overflow_add-py c = (at c 2 tt).at
+
+pub offset_bounds-work-n-in-loop-i-2 : goal.offset_bounds-work-n-in-loop-i-2
+offset_bounds-work-n-in-loop-i-2 c = (at c 2 tt).bytes
+
+pub bounds-work-n-in-loop-i-2 : goal.bounds-work-n-in-loop-i-2
+bounds-work-n-in-loop-i-2 c = (at c 2 tt).within
+
+pub overflow_mul-au : goal.overflow_mul-au
+overflow_mul-au c = (at c 3 tt).run
+
+pub overflow_add-au : goal.overflow_add-au
+overflow_add-au c = (at c 3 tt).at
+
+pub offset_bounds-work-n-in-loop-i-3 : goal.offset_bounds-work-n-in-loop-i-3
+offset_bounds-work-n-in-loop-i-3 c = (at c 3 tt).bytes
+
+pub bounds-work-n-in-loop-i-3 : goal.bounds-work-n-in-loop-i-3
+bounds-work-n-in-loop-i-3 c = (at c 3 tt).within
+
+pub overflow_mul-av : goal.overflow_mul-av
+overflow_mul-av c = (at c 4 tt).run
+
+pub overflow_add-av : goal.overflow_add-av
+overflow_add-av c = (at c 4 tt).at
+
+pub offset_bounds-work-n-in-loop-i-4 : goal.offset_bounds-work-n-in-loop-i-4
+offset_bounds-work-n-in-loop-i-4 c = (at c 4 tt).bytes
+
+pub bounds-work-n-in-loop-i-4 : goal.bounds-work-n-in-loop-i-4
+bounds-work-n-in-loop-i-4 c = (at c 4 tt).within
+
+pub overflow_mul-work : goal.overflow_mul-work
+overflow_mul-work c = (at c 1 tt).run
+
+pub overflow_add-work : goal.overflow_add-work
+overflow_add-work c = (at c 1 tt).at
+
+pub offset_bounds-work-n-in-loop-i-5 : goal.offset_bounds-work-n-in-loop-i-5
+offset_bounds-work-n-in-loop-i-5 c = (at c 1 tt).bytes
+
+pub bounds-work-n-in-loop-i-5 : goal.bounds-work-n-in-loop-i-5
+bounds-work-n-in-loop-i-5 c = (at c 1 tt).within
+
+pub overflow_mul-work-in-loop-i : goal.overflow_mul-work-in-loop-i
+overflow_mul-work-in-loop-i c = (at c 2 tt).run
+
+pub overflow_add-work-in-loop-i : goal.overflow_add-work-in-loop-i
+overflow_add-work-in-loop-i c = (at c 2 tt).at
+
+pub offset_bounds-work-n-in-loop-i-6 : goal.offset_bounds-work-n-in-loop-i-6
+offset_bounds-work-n-in-loop-i-6 c = (at c 2 tt).bytes
+
+pub bounds-work-n-in-loop-i-6 : goal.bounds-work-n-in-loop-i-6
+bounds-work-n-in-loop-i-6 c = simp length-set (at c 2 tt).within
+
+pub overflow_step-i : goal.overflow_step-i
+overflow_step-i c = (turn c.loop-i-test.true c.good.1.1.0.0).fits
+
+pub loop-i-smaller : goal.loop-i-smaller
+loop-i-smaller c = falls _ _ c.loop-i-test.true
+
+pub refused_flow-requires : goal.refused_flow-requires
+refused_flow-requires c = long (goal.at.refused_flow-requires c).At-loop-i
+
+pub shape_of-work-then-all : goal.shape_of-work-then-all
+shape_of-work-then-all c = same (goal.at.shape_of-work-then-all c).At-loop-i
+
+pub shape_of-work-else-all : goal.shape_of-work-else-all
+shape_of-work-else-all c = same (goal.at.shape_of-work-else-all c).At-loop-i

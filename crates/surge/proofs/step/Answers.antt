@@ -1,0 +1,49 @@
+use mathlib.Core.Path.{◌≡◌, sym, ap, ◌∙◌}
+use native.Mathlib.Omega.{arith}
+use borrow.Author.Rules.{rules}
+use Rattle.rows.specs.declared.Answer.{Answer}
+use Rattle.limits.specs.Limits.{row11}
+use Rattle.mesh.specs.Lent.{Mesh, mesh}
+use Rattle.passes.specs.Settle.{Rooms, lent_rooms, Settled, settled, settle_of}
+use Rattle.surge.specs.Lent.{Run, run}
+use Rattle.surge.proofs.StepLaws.{with_clock, made, not_last}
+use Rattle.surge.proofs.step.Goals as goal
+use Rattle.surge.proofs.step.Goals.{After-settle-answer, Start}
+
+abbrev net : Start → Mesh
+net s = let a = s.args in mesh a.x.now a.y.now a.tri.now a.h.now a.kind.now
+
+abbrev held : Start → Run
+held s = run s.args.state.now s.args.clock
+
+abbrev lent : Start → Rooms
+lent s = let a = s.args in lent_rooms a.next-1.now a.work-1.now a.sums-1.now
+
+-- what the passes left
+abbrev left : After-settle-answer → Settled
+left c = settled c.settle-answer.result c.settle-answer.new.next c.settle-answer.new.work c.settle-answer.new.sums
+
+-- what they were to leave
+abbrev its : Start → Settled
+its s = let a = s.args in settle_of (net s) a.p a.state.now a.f.now (row11 a.clock.step) (lent s)
+
+answered : (c : After-settle-answer) → left c ≡ (let a = c.args in settle_of (net c) a.p a.state.now a.f.now (row11 a.clock.step) (lent c))
+answered c =
+    let a = c.args in
+    c.settle-answer.ensures ∙ ap (λ (also : Answer). settle_of ((let a = c.args in mesh a.x.now a.y.now a.tri.now a.h.now a.kind.now)) a.p a.state.now a.f.now also ((let a = c.args in lent_rooms a.next-1.now a.work-1.now a.sums-1.now))) c.may_count-also.ensures
+
+number : (c : After-settle-answer) → ((let a = c.args in settle_of (net c) a.p a.state.now a.f.now (row11 a.clock.step) (lent c))).answer.number ≡ c.settle-answer.result.number
+number c = sym (ap (λ (o : Settled). o.answer.number) (answered c))
+
+pub returns-then-answer-ne0 : goal.returns-then-answer-ne0
+returns-then-answer-ne0 c =
+    ap (with_clock c.args.clock) (answered (goal.at.returns-then-answer-ne0 c).After-settle-answer) ∙ (made (net (goal.at.returns-then-answer-ne0 c).Start) c.args.p (held (goal.at.returns-then-answer-ne0 c).Start) c.args.f.now (lent (goal.at.returns-then-answer-ne0 c).Start)).refused (λ z. c.if-answer-ne0.true (sym (number (goal.at.returns-then-answer-ne0 c).After-settle-answer) ∙ z))
+
+pub advanced-requires : goal.advanced-requires
+advanced-requires c =
+    let ok = ((made (net (goal.at.advanced-requires c).Start) c.args.p (held (goal.at.advanced-requires c).Start) c.args.f.now (lent (goal.at.advanced-requires c).Start)).accepted (number (goal.at.advanced-requires c).After-settle-answer ∙ c.if-answer-ne0.false)).0 in
+    omega (arith, not_last (net (goal.at.advanced-requires c).Start) c.args.p (held (goal.at.advanced-requires c).Start) c.args.f.now (lent (goal.at.advanced-requires c).Start) ok)
+
+pub returns : goal.returns
+returns c =
+    (λ i. with_clock (c.advanced.ensures i) (answered (goal.at.returns c).After-settle-answer i)) ∙ ((made (net (goal.at.returns c).Start) c.args.p (held (goal.at.returns c).Start) c.args.f.now (lent (goal.at.returns c).Start)).accepted (number (goal.at.returns c).After-settle-answer ∙ c.if-answer-ne0.false)).1
