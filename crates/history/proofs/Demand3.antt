@@ -95,6 +95,7 @@ module _ (M : Calls) (L : Laws M) where
   -- the path of the latest save of a text is that of a save of it
   found : (t : List ℕ) (l : List (Saved M)) (p : List M.Forcing) → IsSome (latest M t l) → AllSound l
       → Sound (record { text = t; path = get_or (latest M t l) p })
+  found t [] p i h = elim i [ ]
   found t (s ∷ l) p i h = go (List-discrete ℕ_discrete t s.text) i (λ j. found t l p j h.1)
     where
       go : (d : Dec (t ≡ s.text)) → IsSome (ite d (some s.path) (latest M t l))
