@@ -16,7 +16,7 @@ abbrev d : (c : After-twice_area-d) → ℤ
 d c = to_z w64 (of_z w64 c.twice_area-d.result)
 
 its : (c : After-twice_area-d) → (d c) ≡ near_d c.args.s
-its c = kept c.twice_area-d.type-inv c.twice_area-d.ensures
+its c = kept c.twice_area-d.type_inv c.twice_area-d.ensures
 
 pub overflow_cast-result : goal.overflow_cast-result
 overflow_cast-result c =

@@ -13,6 +13,6 @@ pub returns : goal.returns
 returns c =
     let a = c.args in
     let m = mesh a.x.now a.y.now a.tri.now a.h.now a.kind.now in
-    let rooms = lent_rooms a.next-1.now a.work-1.now a.sums-1.now in
+    let rooms = lent_rooms a.next.now a.work.now a.sums.now in
     list_handed _ _ c.hand_back.ensures _ _ _ _ _
     (c.step_all-stepped.ensures ∙ ap (λ (p : Parameters). step_all_of m p (run a.state.now (clock a.step.now)) a.forcings.now rooms) c.parameters-p.ensures)

@@ -14,8 +14,8 @@ long c = fill_length _ _ _ c.loop-i.invariant.1 (omega arith)
 
 pub loop-i-preserved : goal.loop-i-preserved
 loop-i-preserved c =
-    let t = c.true.ensures in
-    (omega arith, fill_more _ _ _ c.loop-i.invariant.1 (omega arith) (signed_kept t.1 c.Signed-of.ensures ∙ ap signed t.0))
+    let t = c.taken.ensures in
+    (omega arith, fill_more _ _ _ c.loop-i.invariant.1 (omega arith) (signed_kept t.1 c.signed_of.ensures ∙ ap signed t.0))
 
 pub returns : goal.returns
 returns c =
@@ -27,7 +27,7 @@ pub loop-i-init : goal.loop-i-init
 loop-i-init c = (omega arith, sym (up_none _ _))
 
 pub signed_of-requires : goal.signed_of-requires
-signed_of-requires c = c.true.ensures.1
+signed_of-requires c = c.taken.ensures.1
 
 pub bounds-to-i : goal.bounds-to-i
 bounds-to-i c = omega (arith, long (goal.at.bounds-to-i c).At-loop-i)

@@ -13,7 +13,7 @@ long c = fill_length _ _ _ c.loop-i.invariant.1 (omega arith)
 
 pub loop-i-preserved : goal.loop-i-preserved
 loop-i-preserved c =
-    (omega arith, fill_more _ _ _ c.loop-i.invariant.1 (omega arith) c.true.ensures.0)
+    (omega arith, fill_more _ _ _ c.loop-i.invariant.1 (omega arith) c.taken.ensures.0)
 
 pub returns : goal.returns
 returns c =

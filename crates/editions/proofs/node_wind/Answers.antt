@@ -18,4 +18,4 @@ unfolding wind_in
 returns-in-Two c = rw (c.float_of-in-Two.ensures, c.float_of.ensures, c.enum_told-in-Two-1.given.1)
 
 pub returns-in-One : goal.returns-in-One
-returns-in-One c = of_head c.enum_told-1.given.1 _ _
+returns-in-One c = of_head c.enum_told.given.1 _ _

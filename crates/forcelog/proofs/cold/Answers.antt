@@ -11,4 +11,4 @@ use Rattle.forcelog.proofs.cold.Goals as goal
 pub returns : goal.returns
 unfolding cold_log T T_parameters decimal round of_bits table
 returns c =
-    ap (λ (a : After). record { lines = 0; clock = a.reply.clock; state = a.state-1 }) (c.open-opened.ensures ∙ T_opens)
+    ap (λ (a : After). record { lines = 0; clock = a.reply.clock; state = a.state }) (c.open-opened.ensures ∙ T_opens)

@@ -22,7 +22,7 @@ wy text k = float (line_at forcing_lines text (suc k)) 11
 
 pub loop-i-init : goal.loop-i-init
 loop-i-init c =
-    let room = set c.args.room.now 0 c.Float-at.result in
+    let room = set c.args.room.now 0 c.float_at.result in
     let long : length room ≡ 1 + 2 * c.args.n = simp length-set c.requires.0 in
     (omega arith, long, fill_none c.args.n (wx c.args.text.now) (wy c.args.text.now) room long)
 
@@ -32,7 +32,7 @@ its c = rw (start_wind c.loop-i.i) c.part-line.ensures
 
 pub loop-i-preserved : goal.loop-i-preserved
 loop-i-preserved c =
-    let room = set c.args.room.now 0 c.Float-at.result in
+    let room = set c.args.room.now 0 c.float_at.result in
     let put = c.put_wind.ensures in
     let more =
     fill_more c.args.n (wx c.args.text.now) (wy c.args.text.now) room c.loop-i.i c.loop-i-test.true c.loop-i.invariant.2
@@ -44,7 +44,7 @@ unfolding forcing14 start_of
 returns c =
     let end : c.loop-i.i ≡ c.args.n = omega arith in
     c.loop-i.invariant.2
-    ∙ rw end (fill_all c.args.n (wx c.args.text.now) (wy c.args.text.now) c.args.room.now c.requires.0 (c.Float-at.ensures ∙ rw c.part.ensures))
+    ∙ rw end (fill_all c.args.n (wx c.args.text.now) (wy c.args.text.now) c.args.room.now c.requires.0 (c.float_at.ensures ∙ rw c.part.ensures))
 
 pub put_wind-requires : goal.put_wind-requires
 put_wind-requires c = (omega arith, c.loop-i.invariant.1)

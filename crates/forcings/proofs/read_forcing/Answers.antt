@@ -24,14 +24,14 @@ is-14 c = sym c.starts.ensures ∙ c.if-starts.false
 
 -- the answer of each kind
 its-10 : (c : After-fault-line) → let a = c.args in
-    c.fault-line.result ≡ forcing_answer a.room-1.now a.text.now a.expected
+    c.fault-line.result ≡ forcing_answer a.room.now a.text.now a.expected
 its-10 c =
     let fits : is_room c.args.room.now ≡ true = row_passed _ 0 0 (same_number c.tested-shape.ensures c.if-shape-ne0.false) in
     let is-10 : of_kind10 c.args.text.now ≡ true = sym c.starts.ensures ∙ c.if-starts.true in
     answer_10 _ _ _ (fits) (is-10) c.fault-line.ensures
 
 its-14 : (c : After-rows_14-lines) → let a = c.args in
-    c.rows_14-lines.result ≡ forcing_answer a.room-1.now a.text.now a.expected
+    c.rows_14-lines.result ≡ forcing_answer a.room.now a.text.now a.expected
 its-14 c =
     let fits : is_room c.args.room.now ≡ true = row_passed _ 0 0 (same_number c.tested-shape.ensures c.if-shape-ne0.false) in
     let is-14 : of_kind10 c.args.text.now ≡ false = sym c.starts.ensures ∙ c.if-starts.false in
@@ -63,7 +63,7 @@ pub fill_10-requires : goal.fill_10-requires
 fill_10-requires c = long (goal.at.fill_10-requires c).Else-shape-ne0
 
 pub shape_of-room-then-starts : goal.shape_of-room-then-starts
-shape_of-room-then-starts c = c.room-1.given
+shape_of-room-then-starts c = c.room.given
 
 pub shape_of-room : goal.shape_of-room
 shape_of-room c = c.room-2-1.given

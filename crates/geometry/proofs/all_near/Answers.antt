@@ -12,7 +12,7 @@ pub returns : goal.returns
 unfolding all_near
 returns c =
     let s = c.args.s in
-    λ i. side s.a1 c.struct_told-1.given.0.1 c.is_near.ensures i
+    λ i. side s.a1 c.struct_told.given.0.1 c.is_near.ensures i
     && side s.a2 c.struct_told-2-1.given.1.0.1 c.is_near-2.ensures i
     && side s.a3 c.struct_told-3-1.given.1.1.0.1 c.is_near-3.ensures i
     && side s.b1 c.struct_told-4-1.given.1.1.1.0.1 c.is_near-4.ensures i

@@ -5,7 +5,7 @@ use Rattle.geometry.proofs.twice_area.Goals as goal
 use Rattle.geometry.proofs.twice_area.Goals.{Then-all_near}
 
 tested : (c : Then-all_near) → all_near c.args.s ≡ true
-tested c = sym c.all_Near.ensures ∙ c.if-all_near.true
+tested c = sym c.all_near.ensures ∙ c.if-all_near.true
 
 pub overflow_mul-result : goal.overflow_mul-result
 overflow_mul-result c = let f = fit _ (tested (goal.at.overflow_mul-result c).Then-all_near) in search rules
@@ -20,4 +20,4 @@ pub returns-then-all_near : goal.returns-then-all_near
 returns-then-all_near c = let t = tested (goal.at.returns-then-all_near c).Then-all_near in let f = fit _ t in rw (near_d_lem _ t) (search rules)
 
 pub returns-else-all_near : goal.returns-else-all_near
-returns-else-all_near c = sym (far_d _ (sym c.all_Near.ensures ∙ c.if-all_near.false))
+returns-else-all_near c = sym (far_d _ (sym c.all_near.ensures ∙ c.if-all_near.false))

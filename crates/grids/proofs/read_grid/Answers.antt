@@ -12,7 +12,7 @@ abbrev t : (g : After-grid_rows-answer) → List ℕ
 t g = (start g).args.text.now
 
 abbrev lent : (g : After-grid_rows-answer) → Grid
-lent g = let a = (start g).args in grid a.x-1.now a.y-1.now a.h-1.now a.tri-1.now
+lent g = let a = (start g).args in grid a.x.now a.y.now a.h.now a.tri.now
 
 answered : (g : After-grid_rows-answer) → g.grid_rows-answer.result ≡ grid_answer (lent g) (t g)
 answered g = g.grid_rows-answer.ensures

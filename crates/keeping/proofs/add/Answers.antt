@@ -11,7 +11,7 @@ use Rattle.keeping.proofs.RecordLaws.{add_refused, add_accepted}
 use Rattle.keeping.proofs.add.Goals as goal
 use Rattle.keeping.proofs.add.Goals.{After-first-answer}
 
-answered : (c : After-first-answer) → let a = c.args in c.first-answer.result ≡ add_answer a.asked a.inside a.kept-1.now
+answered : (c : After-first-answer) → let a = c.args in c.first-answer.result ≡ add_answer a.asked a.inside a.kept.now
 unfolding add_answer row41
 answered c =
     let n = c.count-g.ensures.0 in

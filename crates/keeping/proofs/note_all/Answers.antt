@@ -15,7 +15,7 @@ pub returns : goal.returns
 returns c =
     let a = c.args in
     let done : c.loop-g.g ≡ a.count = omega arith in
-    c.loop-g.invariant.1 ∙ ap (λ (g : ℕ). all_noted (λ k. get_or a.level.now k nan) a.step g a.kept-1.now) done
+    c.loop-g.invariant.1 ∙ ap (λ (g : ℕ). all_noted (λ k. get_or a.level.now k nan) a.step g a.kept.now) done
 
 pub loop-g-init : goal.loop-g-init
 loop-g-init c = (omega arith, sym (noted_none _ _ _))

@@ -12,6 +12,6 @@ unfolding point_in
 returns c =
     let b = c.args.kept.now in
     λ i. record {
-      x = kept_as w32 (record { sfits = c.Int-at.type-inv }) (c.Int-at.ensures ∙ ap (λ (at : ℕ). signed (number_at b at 4)) c.place_of.ensures) i;
-      y = kept_as w32 (record { sfits = c.int_at-2.type-inv }) (c.int_at-2.ensures ∙ ap (λ (at : ℕ). signed (number_at b at 4)) c.place_of-2.ensures) i;
+      x = kept_as w32 (record { sfits = c.int_at.type_inv }) (c.int_at.ensures ∙ ap (λ (at : ℕ). signed (number_at b at 4)) c.place_of.ensures) i;
+      y = kept_as w32 (record { sfits = c.int_at-2.type_inv }) (c.int_at-2.ensures ∙ ap (λ (at : ℕ). signed (number_at b at 4)) c.place_of-2.ensures) i;
     }

@@ -30,7 +30,7 @@ loop-g-preserved c =
       omega arith,
       i.1,
       i.2,
-      fill_more _ _ _ i.3 (omega arith) (kept_as w32 (record { sfits = c.struct_told-1.given.0.1 }) (ap (λ (p : Point). p.x) here)),
+      fill_more _ _ _ i.3 (omega arith) (kept_as w32 (record { sfits = c.struct_told.given.0.1 }) (ap (λ (p : Point). p.x) here)),
       fill_more _ _ _ i.4 (omega arith) (kept_as w32 (record { sfits = c.struct_told-in-loop-g-1.given.1.0.1 }) (ap (λ (p : Point). p.y) here)),
     )
 

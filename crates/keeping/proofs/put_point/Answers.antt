@@ -23,6 +23,6 @@ returns c =
       handed q.y c.struct_told-2-1.given.1.0.1 c.pattern_32-2.ensures,
       c.place_of-2.ensures,
       c.put_number.ensures,
-      handed q.x c.struct_told-1.given.0.1 c.pattern_32.ensures,
+      handed q.x c.struct_told.given.0.1 c.pattern_32.ensures,
       c.place_of.ensures,
     )

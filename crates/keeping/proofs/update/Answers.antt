@@ -12,7 +12,7 @@ use Rattle.keeping.proofs.RecordLaws.{count_most, update_refused, update_accepte
 use Rattle.keeping.proofs.update.Goals as goal
 use Rattle.keeping.proofs.update.Goals.{After-first-answer}
 
-answered : (c : After-first-answer) → let a = c.args in c.first-answer.result ≡ (a.asked then row43 a.kept-1.now then a.also)
+answered : (c : After-first-answer) → let a = c.args in c.first-answer.result ≡ (a.asked then row43 a.kept.now then a.also)
 answered c =
     let a = c.args in
     c.first-answer.ensures
@@ -27,7 +27,7 @@ pub returns-then-answer-eq0 : goal.returns-then-answer-eq0
 returns-then-answer-eq0 c =
     let a = c.args in
     update_accepted _ _ _ _ _ (answered (goal.at.returns-then-answer-eq0 c).After-first-answer) c.if-answer-eq0.true
-    (c.note_all.ensures ∙ ap (λ (g : ℕ). all_noted (λ j. get_or a.level.now j nan) a.step g a.kept-1.now) c.count.ensures.0)
+    (c.note_all.ensures ∙ ap (λ (g : ℕ). all_noted (λ j. get_or a.level.now j nan) a.step g a.kept.now) c.count.ensures.0)
 
 pub returns-else-answer-eq0 : goal.returns-else-answer-eq0
 returns-else-answer-eq0 c = update_refused _ _ _ _ _ (answered (goal.at.returns-else-answer-eq0 c).After-first-answer) c.if-answer-eq0.false

@@ -14,13 +14,13 @@ use Rattle.lines.proofs.put.Goals.{Joined-len-lt-LONGEST}
 -- n bytes of the line are written, all of them where its length is past its longest
 some : (c : Joined-len-lt-LONGEST)
     → let l = c.args.line in
-    (written l ≡ take c.if-len-lt-LONGEST.n l.bytes-1) × (length l.bytes-1 ≡ longest) × (c.if-len-lt-LONGEST.n ≤ longest)
+    (written l ≡ take c.if-len-lt-LONGEST.n l.bytes) × (length l.bytes ≡ longest) × (c.if-len-lt-LONGEST.n ≤ longest)
 unfolding written
 some c =
     let l = c.args.line in
-    let z : length l.bytes-1 ≡ longest = search rules in
+    let z : length l.bytes ≡ longest = search rules in
     ⊎_elim (λ w. (rw w.1, z, omega arith))
-    (λ w. (rw w.1 (take_all l.len l.bytes-1 (omega arith) ∙ sym (take_all longest l.bytes-1 (omega arith))), z, omega arith)) c.if-len-lt-LONGEST.branch
+    (λ w. (rw w.1 (take_all l.len l.bytes (omega arith) ∙ sym (take_all longest l.bytes (omega arith))), z, omega arith)) c.if-len-lt-LONGEST.branch
 
 long : (c : Joined-len-lt-LONGEST) → length (take c.if-len-lt-LONGEST.n c.args.line.bytes) ≡ c.if-len-lt-LONGEST.n
 long c = length-take-le _ _ (omega (arith, some c))

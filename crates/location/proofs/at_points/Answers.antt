@@ -49,8 +49,8 @@ its : (c : After-sight-seen) → let a = c.args in
 its c =
     let a = c.args in
     let q = point_of a.ps c.loop-g.g in
-    let east = back q.x c.px-1.given in
-    let north = back q.y c.py-1.given in
+    let east = back q.x c.px.given in
+    let north = back q.y c.py.given in
     c.sight-seen.ensures
     ∙ (λ i. sighted a.x.now a.y.now a.tri.now (record { x = east i; y = north i }) (in_run (length a.x.now) 1 a.state.now))
 

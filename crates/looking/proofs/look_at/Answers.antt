@@ -39,20 +39,20 @@ q c = (start (k c)).args.q
 
 here : (c : Else-answer-ne0) → record { x = to_z w32 (of_z w32 (q c).x); y = to_z w32 (of_z w32 (q c).y) } ≡ (q c)
 here c = λ i. record {
-  x = kept_as w32 {r = (q c).x} (record { sfits = (k c).struct_told-1.given.0.1 }) refl i;
-  y = kept_as w32 {r = (q c).y} (record { sfits = (k c).struct_told-2-1.given.1.0.1 }) refl i;
+  x = kept_as w32 {r = (q c).x} (record { sfits = (k c).struct_told.given.0.1 }) refl i;
+  y = kept_as w32 {r = (q c).y} (record { sfits = (k c).struct-told2.given.1.0.1 }) refl i;
 }
 
-triangle : (c : Else-answer-ne0) → get_or (k c).look-seen.result.triangle 0 0 ≡ triangle_at (b c) (q c)
-triangle c = triangle_seen (b c) _ (k c).look-seen.ensures c.if-answer-ne0.false 0 (omega arith) (omega arith) ∙ ap (triangle_at (b c)) (here c)
+triangle : (c : Else-answer-ne0) → get_or (k c).look.result.triangle 0 0 ≡ triangle_at (b c) (q c)
+triangle c = triangle_seen (b c) _ (k c).look.ensures c.if-answer-ne0.false 0 (omega arith) (omega arith) ∙ ap (triangle_at (b c)) (here c)
 
-level : (c : Else-answer-ne0) → get_or (k c).look-seen.result.level 0 nan ≡ level_at (b c) (q c)
-level c = level_seen (b c) _ (k c).look-seen.ensures c.if-answer-ne0.false 0 (omega arith) (omega arith) ∙ ap (level_at (b c)) (here c)
+level : (c : Else-answer-ne0) → get_or (k c).look.result.level 0 nan ≡ level_at (b c) (q c)
+level c = level_seen (b c) _ (k c).look.ensures c.if-answer-ne0.false 0 (omega arith) (omega arith) ∙ ap (level_at (b c)) (here c)
 
-inside : (c : Else-answer-ne0) → ltb (get_or (k c).look-seen.result.triangle 0 0) (length (b c).tri / 2 / 3) ≡ is_on (b c) (q c)
+inside : (c : Else-answer-ne0) → ltb (get_or (k c).look.result.triangle 0 0) (length (b c).tri / 2 / 3) ≡ is_on (b c) (q c)
 inside c = λ i. ltb ((triangle c) i) (sym (elements_length 2 (λ n. n) (b c).tri) i / 3)
 
-few : (c : Else-answer-ne0) → get_or (k c).look-seen.result.triangle 0 0 ≤ 8192
+few : (c : Else-answer-ne0) → get_or (k c).look.result.triangle 0 0 ≤ 8192
 few c = rw (triangle c) (few_triangles (b c) (q c) (same_number (answered (k c)) c.if-answer-ne0.false))
 
 pub returns : goal.returns

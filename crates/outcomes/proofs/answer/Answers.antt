@@ -2,7 +2,7 @@ use borrow.Author.Rules.{rules}
 use Rattle.outcomes.proofs.answer.Goals as goal
 
 pub returns-in-Elevation : goal.returns-in-Elevation
-returns-in-Elevation c = rw c.o-1.given.1
+returns-in-Elevation c = rw c.o.given.1
 
 pub returns-in-Elevation-2 : goal.returns-in-Elevation-2
 returns-in-Elevation-2 c = rw c.o-in-Column-1.given.1

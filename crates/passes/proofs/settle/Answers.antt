@@ -18,7 +18,7 @@ abbrev net : Start → Mesh
 net s = let a = s.args in mesh a.x.now a.y.now a.tri.now a.h.now a.kind.now
 
 abbrev lent : Start → Rooms
-lent s = let a = s.args in lent_rooms a.next-1.now a.work-1.now a.sums-1.now
+lent s = let a = s.args in lent_rooms a.next.now a.work.now a.sums.now
 
 abbrev rows_of : Start → Answer
 rows_of s = let a = s.args in asked (net s) a.p a.state.now a.f.now a.also (lent s)
@@ -39,7 +39,7 @@ abbrev winds : Start → List Float
 winds s = take (length s.args.f.now - 1) (winds_of s.args.f.now)
 
 long : (c : Else-first-ne0) → length c.args.f.now ≡ 1 + wind_runs * N ((let a = c.args in mesh a.x.now a.y.now a.tri.now a.h.now a.kind.now))
-long c = forcing_long ((let a = c.args in mesh a.x.now a.y.now a.tri.now a.h.now a.kind.now)) c.args.p c.args.state.now c.args.f.now c.args.also ((let a = c.args in lent_rooms a.next-1.now a.work-1.now a.sums-1.now)) (passed c)
+long c = forcing_long ((let a = c.args in mesh a.x.now a.y.now a.tri.now a.h.now a.kind.now)) c.args.p c.args.state.now c.args.f.now c.args.also ((let a = c.args in lent_rooms a.next.now a.work.now a.sums.now)) (passed c)
 
 pub work_out-requires : goal.work_out-requires
 work_out-requires c =

@@ -32,7 +32,7 @@ abbrev net : Start → Mesh
 net s = let a = s.args in mesh a.x.now a.y.now a.tri.now a.h.now a.kind.now
 
 abbrev lent : Start → Rooms
-lent s = let a = s.args in lent_rooms a.next-1.now a.work-1.now a.sums-1.now
+lent s = let a = s.args in lent_rooms a.next.now a.work.now a.sums.now
 
 abbrev rows_of : Start → Answer
 rows_of s = first_rows (net s) s.args.list.now (lent s)
@@ -48,19 +48,19 @@ passed e =
 pub returns-then-asked-ne0 : goal.returns-then-asked-ne0
 returns-then-asked-ne0 c =
     let a = c.args in
-    ap (λ (o : Progress). turns o a.next-1.now a.work-1.now a.sums-1.now) c.unmoved.ensures
+    ap (λ (o : Progress). turns o a.next.now a.work.now a.sums.now) c.unmoved.ensures
     ∙ list_refused (net (goal.at.returns-then-asked-ne0 c).Start) a.p a.state.now a.step a.list.now (lent (goal.at.returns-then-asked-ne0 c).Start) (answered (goal.at.returns-then-asked-ne0 c).After-list_rows-asked) c.if-asked-ne0.true
 
 -- ---- no forcing
 pub settle_none-requires : goal.settle_none-requires
 settle_none-requires c =
     let a = c.args in
-    (list_rooms (net (goal.at.settle_none-requires c).Start) a.p a.state.now a.step a.list.now (lent (goal.at.settle_none-requires c).Start) (passed (goal.at.settle_none-requires c).Else-asked-ne0)).next-1
+    (list_rooms (net (goal.at.settle_none-requires c).Start) a.p a.state.now a.step a.list.now (lent (goal.at.settle_none-requires c).Start) (passed (goal.at.settle_none-requires c).Else-asked-ne0)).next
 
 pub returns-then-list-eq0 : goal.returns-then-list-eq0
 returns-then-list-eq0 c =
     let a = c.args in
-    ap (λ (o : Progress). turns o c.settle_none.new.next a.work-1.now a.sums-1.now) c.unmoved-then-list-eq0.ensures
+    ap (λ (o : Progress). turns o c.settle_none.new.next a.work.now a.sums.now) c.unmoved-then-list-eq0.ensures
     ∙ list_none (net (goal.at.returns-then-list-eq0 c).Start) a.p a.state.now a.step a.list.now (lent (goal.at.returns-then-list-eq0 c).Start) (passed (goal.at.returns-then-list-eq0 c).Else-asked-ne0) c.if-list-eq0.true c.settle_none.ensures.0 c.settle_none.ensures.1
 
 abbrev ok : (v : After-settle-first) → ((first_rows (net v) v.args.list.now (lent v))).number ≡ 0
@@ -73,14 +73,14 @@ abbrev left : After-settle-first → Settled
 left v = settled v.settle-first.result v.settle-first.new.next v.settle-first.new.work v.settle-first.new.sums
 
 abbrev its : After-settle-first → Settled
-its v = let a = v.args in one ((let a = v.args in mesh a.x.now a.y.now a.tri.now a.h.now a.kind.now)) a.p a.state.now a.step a.list.now ((let a = v.args in lent_rooms a.next-1.now a.work-1.now a.sums-1.now)) (ok v) v.if-list-eq0.false
+its v = let a = v.args in one ((let a = v.args in mesh a.x.now a.y.now a.tri.now a.h.now a.kind.now)) a.p a.state.now a.step a.list.now ((let a = v.args in lent_rooms a.next.now a.work.now a.sums.now)) (ok v) v.if-list-eq0.false
 
 settles : (v : After-settle-first) → left v ≡ its v
 settles v =
     let a = v.args in
     let long = forcing_length (N ((let a = v.args in mesh a.x.now a.y.now a.tri.now a.h.now a.kind.now))) in
     v.settle-first.ensures
-    ∙ (λ i. settle_of ((let a = v.args in mesh a.x.now a.y.now a.tri.now a.h.now a.kind.now)) a.p a.state.now (take long (drop (sym (zero-mul long) i) a.list.now)) (v.may_count.ensures i) (without_added (N ((let a = v.args in mesh a.x.now a.y.now a.tri.now a.h.now a.kind.now))) ((let a = v.args in lent_rooms a.next-1.now a.work-1.now a.sums-1.now))))
+    ∙ (λ i. settle_of ((let a = v.args in mesh a.x.now a.y.now a.tri.now a.h.now a.kind.now)) a.p a.state.now (take long (drop (sym (zero-mul long) i) a.list.now)) (v.may_count.ensures i) (without_added (N ((let a = v.args in mesh a.x.now a.y.now a.tri.now a.h.now a.kind.now))) ((let a = v.args in lent_rooms a.next.now a.work.now a.sums.now))))
 
 number : (v : After-settle-first) → v.settle-first.result.number ≡ (its v).answer.number
 number v = ap (λ (o : Settled). o.answer.number) (settles v)
@@ -88,7 +88,7 @@ number v = ap (λ (o : Settled). o.answer.number) (settles v)
 pub returns-then-first-ne0 : goal.returns-then-first-ne0
 returns-then-first-ne0 c =
     let a = c.args in
-    ap (λ (o : Progress). turns o c.settle-first.new.next (c.settle-first.new.work ++ drop (work_runs * N (net (goal.at.returns-then-first-ne0 c).Start)) a.work-1.now) c.settle-first.new.sums) c.unmoved-then-first-ne0.ensures
+    ap (λ (o : Progress). turns o c.settle-first.new.next (c.settle-first.new.work ++ drop (work_runs * N (net (goal.at.returns-then-first-ne0 c).Start)) a.work.now) c.settle-first.new.sums) c.unmoved-then-first-ne0.ensures
     ∙ (λ i. with_added (N (net (goal.at.returns-then-first-ne0 c).Start)) (lent (goal.at.returns-then-first-ne0 c).Start) (unmoved a.step (settles (goal.at.returns-then-first-ne0 c).After-settle-first i).answer (settles (goal.at.returns-then-first-ne0 c).After-settle-first i).rooms))
     ∙ list_stop (net (goal.at.returns-then-first-ne0 c).Start) a.p a.state.now a.step a.list.now (lent (goal.at.returns-then-first-ne0 c).Start) (ok (goal.at.returns-then-first-ne0 c).After-settle-first) c.if-list-eq0.false (λ z. c.if-first-ne0.true (number (goal.at.returns-then-first-ne0 c).After-settle-first ∙ z))
 
@@ -98,13 +98,13 @@ abbrev its-start : (e : Else-asked-ne0) → tie.Start
 its-start e = e
 
 own_fits : (e : Else-asked-ne0) → work_runs * N (net (its-start e)) ≤ length (its-start e).args.work.now
-own_fits e = let s = (its-start e) in let a = s.args in omega (arith, (list_rooms ((let a = s.args in mesh a.x.now a.y.now a.tri.now a.h.now a.kind.now)) a.p a.state.now a.step a.list.now ((let a = s.args in lent_rooms a.next-1.now a.work-1.now a.sums-1.now)) (passed e)).work-1)
+own_fits e = let s = (its-start e) in let a = s.args in omega (arith, (list_rooms ((let a = s.args in mesh a.x.now a.y.now a.tri.now a.h.now a.kind.now)) a.p a.state.now a.step a.list.now ((let a = s.args in lent_rooms a.next.now a.work.now a.sums.now)) (passed e)).work)
 
 list_fits : (e : Else-asked-ne0) → (length (its-start e).args.list.now ≡ 0 → ⊥) → forcing_length (N (net (its-start e))) ≤ length (its-start e).args.list.now
 list_fits e some =
     let s = (its-start e) in
     let a = s.args in
-    let some-forcings = counted ((let a = s.args in mesh a.x.now a.y.now a.tri.now a.h.now a.kind.now)) a.p a.state.now a.step a.list.now ((let a = s.args in lent_rooms a.next-1.now a.work-1.now a.sums-1.now)) (passed e) some in
+    let some-forcings = counted ((let a = s.args in mesh a.x.now a.y.now a.tri.now a.h.now a.kind.now)) a.p a.state.now a.step a.list.now ((let a = s.args in lent_rooms a.next.now a.work.now a.sums.now)) (passed e) some in
     let w = forcing_within (N ((let a = s.args in mesh a.x.now a.y.now a.tri.now a.h.now a.kind.now))) a.list.now 0 (listed (N ((let a = s.args in mesh a.x.now a.y.now a.tri.now a.h.now a.kind.now))) a.list.now some-forcings) in
     omega (arith, w, zero-mul (forcing_length (N ((let a = s.args in mesh a.x.now a.y.now a.tri.now a.h.now a.kind.now)))))
 
@@ -122,12 +122,12 @@ room v = v.settle-first.last.1.0 ++ drop (own v) (here v).args.work.now
 
 own_length : (v : After-settle-first) → length v.settle-first.last.1.0 ≡ (own v)
 own_length v =
-    let own_fits : work_runs * N (net (its-start v)) ≤ length (its-start v).args.work.now = let s = (its-start v) in let a = s.args in omega (arith, (list_rooms ((let a = s.args in mesh a.x.now a.y.now a.tri.now a.h.now a.kind.now)) a.p a.state.now a.step a.list.now ((let a = s.args in lent_rooms a.next-1.now a.work-1.now a.sums-1.now)) (passed v)).work-1) in
+    let own_fits : work_runs * N (net (its-start v)) ≤ length (its-start v).args.work.now = let s = (its-start v) in let a = s.args in omega (arith, (list_rooms ((let a = s.args in mesh a.x.now a.y.now a.tri.now a.h.now a.kind.now)) a.p a.state.now a.step a.list.now ((let a = s.args in lent_rooms a.next.now a.work.now a.sums.now)) (passed v)).work) in
     v.settle-first.kept.1.0 ∙ length-take-le _ _ (own_fits)
 
 room_length : (v : After-settle-first) → length (room v) ≡ length (here v).args.work.now
 room_length v =
-    let own_fits : work_runs * N (net (its-start v)) ≤ length (its-start v).args.work.now = let s = (its-start v) in let a = s.args in omega (arith, (list_rooms ((let a = s.args in mesh a.x.now a.y.now a.tri.now a.h.now a.kind.now)) a.p a.state.now a.step a.list.now ((let a = s.args in lent_rooms a.next-1.now a.work-1.now a.sums-1.now)) (passed v)).work-1) in
+    let own_fits : work_runs * N (net (its-start v)) ≤ length (its-start v).args.work.now = let s = (its-start v) in let a = s.args in omega (arith, (list_rooms ((let a = s.args in mesh a.x.now a.y.now a.tri.now a.h.now a.kind.now)) a.p a.state.now a.step a.list.now ((let a = s.args in lent_rooms a.next.now a.work.now a.sums.now)) (passed v)).work) in
     put_back (own v) v.settle-first.last.1.0 (here v).args.work.now (own_length v) (own_fits)
 module _ (h : v.settle-first.result.number ≡ 0) where
   accepts : (its v).answer.number ≡ 0
@@ -150,7 +150,7 @@ rest_of-requires c =
     let rooms = list_rooms (net (goal.at.rest_of-requires c).Start) a.p a.state.now a.step a.list.now (lent (goal.at.rest_of-requires c).Start) (ok (goal.at.rest_of-requires c).After-settle-first) in (
       (rows c h).run.shape,
       (
-        (c.settle-first.auto.next ∙ rooms.next-1, omega (arith, room_length (goal.at.rest_of-requires c).After-settle-first, own_fits (goal.at.rest_of-requires c).Else-asked-ne0), c.settle-first.auto.sums ∙ rooms.sums-1),
+        (c.settle-first.auto.next ∙ rooms.next, omega (arith, room_length (goal.at.rest_of-requires c).After-settle-first, own_fits (goal.at.rest_of-requires c).Else-asked-ne0), c.settle-first.auto.sums ∙ rooms.sums),
         (may_count c h, counted (net (goal.at.rest_of-requires c).Start) a.p a.state.now a.step a.list.now (lent (goal.at.rest_of-requires c).Start) (ok (goal.at.rest_of-requires c).After-settle-first) c.if-list-eq0.false),
       ),
     )

@@ -20,5 +20,5 @@ loop-len-preserved c = (c.read_part-got.ensures.1, omega arith, omega arith)
 pub returns : goal.returns
 returns c =
     let l = c.loop-len in
-    let within : l.len ≤ length l.text-1 = omega (arith, l.invariant) in
+    let within : l.len ≤ length l.text = omega (arith, l.invariant) in
     (within, sym (length-take-le _ _ within))

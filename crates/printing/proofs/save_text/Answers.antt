@@ -5,4 +5,4 @@ use borrow.Author.Rules.{rules}
 use Rattle.printing.proofs.save_text.Goals as goal
 
 pub returns : goal.returns
-returns c = ap (λ (o : SaveOut). o.text-1) (c.end.ensures ∙ end_saved _ c.requires _ refl)
+returns c = ap (λ (o : SaveOut). o.text) (c.end.ensures ∙ end_saved _ c.requires _ refl)

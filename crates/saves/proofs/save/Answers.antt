@@ -61,8 +61,8 @@ returns c =
     let a = c.args in
     let m = net (goal.at.returns c).Start in
     let same = c.twice_areas-sum.ensures ∙ all_counted m (run (goal.at.returns c).Else-lent-ne0).shape in
-    save_written m a.p a.state.now a.clock a.text-1.now (answered (goal.at.returns c).After-tested-fits) c.if-fits-ne0.false
-    (c.write.ensures ∙ ap (λ (total : ℕ). save_text (record { n = N m; e = E m; c = total; p = a.p; state = a.state.now; clock = a.clock }) ++ drop (save_length (N m)) a.text-1.now) same)
+    save_written m a.p a.state.now a.clock a.text.now (answered (goal.at.returns c).After-tested-fits) c.if-fits-ne0.false
+    (c.write.ensures ∙ ap (λ (total : ℕ). save_text (record { n = N m; e = E m; sum = total; p = a.p; state = a.state.now; clock = a.clock }) ++ drop (save_length (N m)) a.text.now) same)
 
 pub overflow_mul-room : goal.overflow_mul-room
 overflow_mul-room c = omega (arith, (run (goal.at.overflow_mul-room c).Else-lent-ne0).shape.sized.most_nodes)

@@ -13,7 +13,7 @@ use Rattle.surge.proofs.open.Goals as goal
 use Rattle.surge.proofs.open.Goals.{After-open_rows-answer}
 
 answered : (c : After-open_rows-answer) → let a = c.args in
-    c.open_rows-answer.result ≡ open_answer (mesh a.x.now a.y.now a.tri.now a.h.now a.kind.now) a.p a.state-1.now
+    c.open_rows-answer.result ≡ open_answer (mesh a.x.now a.y.now a.tri.now a.h.now a.kind.now) a.p a.state.now
 unfolding open_answer
 answered c =
     let a = c.args in

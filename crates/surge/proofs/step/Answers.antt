@@ -17,7 +17,7 @@ abbrev held : Start → Run
 held s = run s.args.state.now s.args.clock
 
 abbrev lent : Start → Rooms
-lent s = let a = s.args in lent_rooms a.next-1.now a.work-1.now a.sums-1.now
+lent s = let a = s.args in lent_rooms a.next.now a.work.now a.sums.now
 
 -- what the passes left
 abbrev left : After-settle-answer → Settled
@@ -30,7 +30,7 @@ its s = let a = s.args in settle_of (net s) a.p a.state.now a.f.now (row11 a.clo
 answered : (c : After-settle-answer) → left c ≡ (let a = c.args in settle_of (net c) a.p a.state.now a.f.now (row11 a.clock.step) (lent c))
 answered c =
     let a = c.args in
-    c.settle-answer.ensures ∙ ap (λ (also : Answer). settle_of ((let a = c.args in mesh a.x.now a.y.now a.tri.now a.h.now a.kind.now)) a.p a.state.now a.f.now also ((let a = c.args in lent_rooms a.next-1.now a.work-1.now a.sums-1.now))) c.may_count-also.ensures
+    c.settle-answer.ensures ∙ ap (λ (also : Answer). settle_of ((let a = c.args in mesh a.x.now a.y.now a.tri.now a.h.now a.kind.now)) a.p a.state.now a.f.now also ((let a = c.args in lent_rooms a.next.now a.work.now a.sums.now))) c.may_count-also.ensures
 
 number : (c : After-settle-answer) → ((let a = c.args in settle_of (net c) a.p a.state.now a.f.now (row11 a.clock.step) (lent c))).answer.number ≡ c.settle-answer.result.number
 number c = sym (ap (λ (o : Settled). o.answer.number) (answered c))

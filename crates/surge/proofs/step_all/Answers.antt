@@ -10,6 +10,6 @@ pub returns : goal.returns
 returns c =
     let a = c.args in
     let m = mesh a.x.now a.y.now a.tri.now a.h.now a.kind.now in
-    let rooms = lent_rooms a.next-1.now a.work-1.now a.sums-1.now in
+    let rooms = lent_rooms a.next.now a.work.now a.sums.now in
     c.settle_all-made.ensures
     ∙ ap (λ (single : Single). list_of single m a.p a.state.now a.clock.step a.list.now rooms) (same_single m a.p)

@@ -21,16 +21,16 @@ t f = (start f).args.text.now
 abbrev second : (f : After-first-asked) → Answer
 second f = count_line_rows (lengths (start f).args.x (start f).args.y (start f).args.h (start f).args.tri) (count_line (t f))
 
-asked_second : (f : After-first-asked) → (counts f).counts_row-counts.result.answer ≡ (second f)
-asked_second f = (counts f).counts_row-counts.ensures.0 ∙ ap (count_line_rows (lengths _ _ _ _)) (second_line (t f) (counts f).past_line.ensures)
+asked_second : (f : After-first-asked) → (counts f).counts_row.result.answer ≡ (second f)
+asked_second f = (counts f).counts_row.ensures.0 ∙ ap (count_line_rows (lengths _ _ _ _)) (second_line (t f) (counts f).past-line.ensures)
 
 head : (f : After-first-asked) → f.first-asked.result ≡ (title_row (t f) then (second f))
-head f = f.first-asked.ensures ∙ (λ i. ((counts f).tested-title.ensures ∙ title_row_lem (t f)) i then (asked_second f) i)
+head f = f.first-asked.ensures ∙ (λ i. ((counts f).tested.ensures ∙ title_row_lem (t f)) i then (asked_second f) i)
 module _ (e : f.first-asked.result.number ≡ 0) where
   accepts : (second f).number ≡ 0
   accepts = then_rest (title_row (t f)) (second f) (same_number (head f) e)
-  past : drop (counts f).counts_row-counts.result.next (t f) ≡ after_lines 2 (t f)
-  past = past_two (t f) (counts f).past_line.ensures ((counts f).counts_row-counts.ensures.1 (same_number (sym (asked_second f)) accepts))
+  past : drop (counts f).counts_row.result.next (t f) ≡ after_lines 2 (t f)
+  past = past_two (t f) (counts f).past-line.ensures ((counts f).counts_row.ensures.1 (same_number (sym (asked_second f)) accepts))
   nodes : (start f).args.h ≡ count_n (t f)
   nodes = long_h _ _ _ _ (t f) accepts
   triangles : (start f).args.tri / 3 ≡ count_e (t f)
@@ -43,7 +43,7 @@ returns-then-asked-ne0 c = stops _ (head (goal.at.returns-then-asked-ne0 c).Afte
 abbrev before : (n : After-node_rows-nodes) → tie.After-first
 before n = n
 
-accepted_head : (n : After-node_rows-nodes) → (before n).first-asked.result.number ≡ 0
+accepted_head : (n : After-node_rows-nodes) → (before n).first.result.number ≡ 0
 accepted_head n = n.if-asked-ne0.left
 
 asked_nodes : (n : After-node_rows-nodes) → n.node_rows-nodes.result.answer ≡ scan (λ i. node_line_rows i (node_line (t (before n)) i)) (count_n (t (before n)))

@@ -7,7 +7,7 @@ pub returns : goal.returns
 returns c =
     let i = c.args.i in
     let few = c.requires in
-    let seen = c.Node-at.ensures in
+    let seen = c.node_at-its.ensures in
     let tested : c.first-2.result ≡ node_tested i seen few =
     rw (
       c.first-2.ensures,

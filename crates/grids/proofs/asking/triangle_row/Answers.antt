@@ -7,7 +7,7 @@ pub returns : goal.returns
 returns c =
     let a = c.args in
     let few = c.requires.1 in
-    let seen = c.triangle_at_lem.ensures in
+    let seen = c.triangle_at-its.ensures in
     let tested : c.first-2.result ≡ triangle_tested a.n a.k seen few =
     rw (
       c.first-2.ensures,
@@ -17,6 +17,6 @@ returns c =
       c.tested-formed.ensures,
       c.is_corner-3.ensures,
       c.is_corner-2.ensures,
-      c.is_corner_lem.ensures,
+      c.is_corner.ensures,
     ) in
     (tested ∙ triangle_row a.n a.k seen few, λ e. line_next seen.seen _ _ (same_number tested e))

@@ -8,5 +8,5 @@ returns-then-text-from c = counts_none _ _ refl (not_there _ _ c.if-text-from.tr
 
 pub returns : goal.returns
 returns c =
-    counts_line (number_seen c.skip-a.ensures c.digits_at-e.ensures c.is_number_lem.ensures)
+    counts_line (number_seen c.skip-a.ensures c.digits_at-e.ensures c.is_number.ensures)
     (number_seen c.skip-b.ensures c.digits_at-n.ensures c.is_number-2.ensures) (line_end c.skip_rest-end.ensures) _

@@ -26,17 +26,17 @@ start c = (n c)
 abbrev from : (c : After-is_number-3) → ℕ → List ℕ
 from c at = drop at (start c).args.text.now
 
-n_seen : (c : After-is_number-3) → NumberSeen ((from c) (start c).args.from) c.is_number_lem.result (n c).digits_at-number.result.value ((from c) (n c).digits_at-number.result.end)
-n_seen c = number_seen (n c).skip-a.ensures (n c).digits_at-number.ensures c.is_number_lem.ensures
+n_seen : (c : After-is_number-3) → NumberSeen ((from c) (start c).args.from) c.is_number.result (n c).digits-at.result.value ((from c) (n c).digits-at.result.end)
+n_seen c = number_seen (n c).skip.ensures (n c).digits-at.ensures c.is_number.ensures
 
-x_seen : (c : After-is_number-3) → WholeSeen ((from c) (n c).digits_at-number.result.end) c.is_number-2.result (eqb (x c).skip-b.result.stop 45) (x c).digits_at-x.result.value ((from c) (x c).digits_at-x.result.end)
-x_seen c = whole_seen (x c).skip-b.ensures (x c).past-x_from.ensures (x c).digits_at-x.ensures c.is_number-2.ensures
+x_seen : (c : After-is_number-3) → WholeSeen ((from c) (n c).digits-at.result.end) c.is_number-2.result (eqb (x c).skip2.result.stop 45) (x c).digits-at2.result.value ((from c) (x c).digits-at2.result.end)
+x_seen c = whole_seen (x c).skip2.ensures (x c).past.ensures (x c).digits-at2.ensures c.is_number-2.ensures
 
-y_seen : (c : After-is_number-3) → WholeSeen ((from c) (x c).digits_at-x.result.end) c.is_number-3.result (eqb (y c).skip-c.result.stop 45) (y c).digits_at-y.result.value ((from c) (y c).digits_at-y.result.end)
-y_seen c = whole_seen (y c).skip-c.ensures (y c).past-y_from.ensures (y c).digits_at-y.ensures c.is_number-3.ensures
+y_seen : (c : After-is_number-3) → WholeSeen ((from c) (x c).digits-at2.result.end) c.is_number-3.result (eqb (y c).skip3.result.stop 45) (y c).digits-at3.result.value ((from c) (y c).digits-at3.result.end)
+y_seen c = whole_seen (y c).skip3.ensures (y c).past2.ensures (y c).digits-at3.ensures c.is_number-3.ensures
 
 pub returns-then-text-from : goal.returns-then-text-from
-returns-then-text-from c = node_none _ _ c.no_Node.ensures (not_there _ _ c.if-text-from.true _ _)
+returns-then-text-from c = node_none _ _ c.no_node.ensures (not_there _ _ c.if-text-from.true _ _)
 
 pub returns-then-not-is_number : goal.returns-then-not-is_number
 returns-then-not-is_number c =
@@ -46,7 +46,7 @@ returns-then-not-is_number c =
 pub returns : goal.returns
 returns c =
     let all = not-false _ c.if-not-is_number.false in
-    let both = both_right c.is_number_lem.result _ all in
+    let both = both_right c.is_number.result _ all in
     node_line_lem (n_seen (goal.at.returns c).After-is_number-3) (both_left _ _ all) (x_seen (goal.at.returns c).After-is_number-3) (both_left _ _ both) (y_seen (goal.at.returns c).After-is_number-3) (both_right c.is_number-2.result _ both)
     c.depth_at-h.ensures.0 (line_end c.skip_rest-end.ensures) _
 

@@ -25,11 +25,11 @@ start c = (n c)
 abbrev from : (c : After-is_number-2) → ℕ → List ℕ
 from c at = drop at (start c).args.text.now
 
-n_seen : (c : After-is_number-2) → NumberSeen ((from c) (start c).args.from) c.is_number-2.result (n c).digits_at-number.result.value ((from c) (n c).digits_at-number.result.end)
-n_seen c = number_seen (n c).skip-a.ensures (n c).digits_at-number.ensures c.is_number-2.ensures
+n_seen : (c : After-is_number-2) → NumberSeen ((from c) (start c).args.from) c.is_number-2.result (n c).digits-at.result.value ((from c) (n c).digits-at.result.end)
+n_seen c = number_seen (n c).skip.ensures (n c).digits-at.ensures c.is_number-2.ensures
 
-k_seen : (c : After-is_number-2) → NumberSeen ((from c) (n c).digits_at-number.result.end) (k-tested c).is_number_lem.result (k c).digits_at-three.result.value ((from c) (k c).digits_at-three.result.end)
-k_seen c = number_seen (k c).skip-b.ensures (k c).digits_at-three.ensures (k-tested c).is_number_lem.ensures
+k_seen : (c : After-is_number-2) → NumberSeen ((from c) (n c).digits-at.result.end) (k-tested c).is_number_lem.result (k c).digits-at2.result.value ((from c) (k c).digits-at2.result.end)
+k_seen c = number_seen (k c).skip2.ensures (k c).digits-at2.ensures (k-tested c).is_number_lem.ensures
 
 pub returns-then-text-from : goal.returns-then-text-from
 returns-then-text-from c = triangle_none _ _ refl (not_there _ _ c.if-text-from.true _ _)

@@ -2,4 +2,4 @@ use Rattle.std.proofs.Common.{rules}
 use Rattle.grids.proofs.fields.is_number.Goals as goal
 
 pub returns : goal.returns
-returns c = rw c.is_end_lem.ensures
+returns c = rw c.is_end.ensures

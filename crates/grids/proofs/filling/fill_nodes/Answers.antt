@@ -28,28 +28,28 @@ abbrev u : (k : After-node_at-its) → List ℕ
 u k = drop (start k).args.from (start k).args.text.now
 
 abbrev i : (k : After-node_at-its) → ℕ
-i k = (l k).loop-i.i
+i k = (l k).loop.i
 
 abbrev r : (k : After-node_at-its) → NodeLine
-r k = k.Node-at.result
+r k = k.node_at-its.result
 
-seen : (k : After-node_at-its) → NodeSeen (drop (l k).loop-i.at (start k).args.text.now) (r k) (drop (r k).next (start k).args.text.now)
-seen k = k.Node-at.ensures
+seen : (k : After-node_at-its) → NodeSeen (drop (l k).loop.at (start k).args.text.now) (r k) (drop (r k).next (start k).args.text.now)
+seen k = k.node_at-its.ensures
 
-at : (k : After-node_at-its) → drop (l k).loop-i.at (start k).args.text.now ≡ after_lines (i k) (u k)
-at k = (l k).loop-i.invariant.1.0
+at : (k : After-node_at-its) → drop (l k).loop.at (start k).args.text.now ≡ after_lines (i k) (u k)
+at k = (l k).loop.invariant.1.0
 
-ok : (k : After-node_at-its) → (node_line_rows (i k) (present (drop (l k).loop-i.at (start k).args.text.now))).number ≡ 0
+ok : (k : After-node_at-its) → (node_line_rows (i k) (present (drop (l k).loop.at (start k).args.text.now))).number ≡ 0
 ok k = here_accepts (i k) (u k) (at k) node_line_rows ((start k).requires.by_index (i k) k.loop-i-test.true)
 
-within_x : (k : After-node_at-its) → (i k) < length (l k).loop-i.x
-within_x k = omega (arith, fill_length (i k) (x_in (line_of (u k))) (start k).args.x.now (l k).loop-i.invariant.1.1.0 (l k).loop-i.invariant.0, k.loop-i-test.true)
+within_x : (k : After-node_at-its) → (i k) < length (l k).loop.x
+within_x k = omega (arith, fill_length (i k) (x_in (line_of (u k))) (start k).args.x.now (l k).loop.invariant.1.1.0 (l k).loop.invariant.0, k.loop-i-test.true)
 
-within_y : (k : After-node_at-its) → (i k) < length (l k).loop-i.y
-within_y k = omega (arith, fill_length (i k) (y_in (line_of (u k))) (start k).args.y.now (l k).loop-i.invariant.1.1.1.0 (omega (arith, (start k).requires.y_len.0)), k.loop-i-test.true, (start k).requires.y_len.0)
+within_y : (k : After-node_at-its) → (i k) < length (l k).loop.y
+within_y k = omega (arith, fill_length (i k) (y_in (line_of (u k))) (start k).args.y.now (l k).loop.invariant.1.1.1.0 (omega (arith, (start k).requires.y_len.0)), k.loop-i-test.true, (start k).requires.y_len.0)
 
-within_h : (k : After-node_at-its) → (i k) < length (l k).loop-i.h
-within_h k = omega (arith, fill_length (i k) (h_in (line_of (u k))) (start k).args.h.now (l k).loop-i.invariant.1.1.1.1 (omega (arith, (start k).requires.y_len.1)), k.loop-i-test.true, (start k).requires.y_len.1)
+within_h : (k : After-node_at-its) → (i k) < length (l k).loop.h
+within_h k = omega (arith, fill_length (i k) (h_in (line_of (u k))) (start k).args.h.now (l k).loop.invariant.1.1.1.1 (omega (arith, (start k).requires.y_len.1)), k.loop-i-test.true, (start k).requires.y_len.1)
 
 -- the place of an element, in bytes
 offset_x : (k : After-node_at-its) → Fits w64 ((i k) * 4)
@@ -92,19 +92,19 @@ begin c = (e c)
 abbrev lines : (c : After-loop-i) → List ℕ
 lines c = drop (begin c).args.from (begin c).args.text.now
 
-all : (c : After-loop-i) → (e c).loop-i.i ≡ length (begin c).args.x.now
+all : (c : After-loop-i) → (e c).loop.i ≡ length (begin c).args.x.now
 all c = omega arith
 
-whole : (c : After-loop-i) → {A : Type 0} (f : ℕ → A) (l₀ : List A) {l : List A} → length l₀ ≡ length (begin c).args.x.now → l ≡ up_to (e c).loop-i.i f l₀
+whole : (c : After-loop-i) → {A : Type 0} (f : ℕ → A) (l₀ : List A) {l : List A} → length l₀ ≡ length (begin c).args.x.now → l ≡ up_to (e c).loop.i f l₀
     → l ≡ table (length (begin c).args.x.now) f
 whole c f l₀ same filled = (filled c) ∙ ap (λ (n : ℕ). up_to n f l₀) ((all c) ∙ sym same) ∙ up_all f l₀ ∙ ap (λ (n : ℕ). table n f) same
 
-filled : (c : After-loop-i) → NodesFilled (length (begin c).args.x.now) (lines c) (e c).loop-i.x (e c).loop-i.y (e c).loop-i.h (drop (e c).loop-i.at (begin c).args.text.now)
+filled : (c : After-loop-i) → NodesFilled (length (begin c).args.x.now) (lines c) (e c).loop.x (e c).loop.y (e c).loop.h (drop (e c).loop.at (begin c).args.text.now)
 filled c = record {
-  its_x = (whole c) (x_in (line_of (lines c))) (begin c).args.x.now refl (e c).loop-i.invariant.1.1.0;
-  its_y = (whole c) (y_in (line_of (lines c))) (begin c).args.y.now (begin c).requires.y_len.0 (e c).loop-i.invariant.1.1.1.0;
-  its_h = (whole c) (h_in (line_of (lines c))) (begin c).args.h.now (begin c).requires.y_len.1 (e c).loop-i.invariant.1.1.1.1;
-  after = (e c).loop-i.invariant.1.0 ∙ ap (λ (k : ℕ). after_lines k (lines c)) (all c);
+  its_x = (whole c) (x_in (line_of (lines c))) (begin c).args.x.now refl (e c).loop.invariant.1.1.0;
+  its_y = (whole c) (y_in (line_of (lines c))) (begin c).args.y.now (begin c).requires.y_len.0 (e c).loop.invariant.1.1.1.0;
+  its_h = (whole c) (h_in (line_of (lines c))) (begin c).args.h.now (begin c).requires.y_len.1 (e c).loop.invariant.1.1.1.1;
+  after = (e c).loop.invariant.1.0 ∙ ap (λ (k : ℕ). after_lines k (lines c)) (all c);
 }
 
 pub shape_of-x : goal.shape_of-x

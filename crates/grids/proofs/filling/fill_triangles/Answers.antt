@@ -26,25 +26,25 @@ abbrev u : (s : After-triangle_at-its) → List ℕ
 u s = drop (start s).args.from (start s).args.text.now
 
 abbrev k : (s : After-triangle_at-its) → ℕ
-k s = (l s).loop-k.k
+k s = (l s).loop.k
 
 abbrev r : (s : After-triangle_at-its) → TriangleLine
-r s = s.triangle_at_lem.result
+r s = s.triangle_at-its.result
 
-seen : (s : After-triangle_at-its) → TriangleSeen (drop (l s).loop-k.at (start s).args.text.now) (r s) (drop (r s).next (start s).args.text.now)
-seen s = s.triangle_at_lem.ensures
+seen : (s : After-triangle_at-its) → TriangleSeen (drop (l s).loop.at (start s).args.text.now) (r s) (drop (r s).next (start s).args.text.now)
+seen s = s.triangle_at-its.ensures
 
-at : (s : After-triangle_at-its) → drop (l s).loop-k.at (start s).args.text.now ≡ after_lines (k s) (u s)
-at s = (l s).loop-k.invariant.1.0
+at : (s : After-triangle_at-its) → drop (l s).loop.at (start s).args.text.now ≡ after_lines (k s) (u s)
+at s = (l s).loop.invariant.1.0
 
 turn : (s : After-triangle_at-its) → 3 * (k s) + 2 < length (start s).args.tri.now
 turn s = omega (arith, s.loop-k-test.true)
 
-ok : (s : After-triangle_at-its) → (triangle_line_rows (start s).args.n (k s) (present (drop (l s).loop-k.at (start s).args.text.now))).number ≡ 0
+ok : (s : After-triangle_at-its) → (triangle_line_rows (start s).args.n (k s) (present (drop (l s).loop.at (start s).args.text.now))).number ≡ 0
 ok s = here_accepts (k s) (u s) (at s) (triangle_line_rows (start s).args.n) ((start s).requires.by_index (k s) (omega (arith, (turn s))))
 
-within : (s : After-triangle_at-its) → 3 * (k s) + 2 < length (l s).loop-k.tri
-within s = omega (arith, fill_length (3 * (k s)) (corner_in (line_of (u s))) (start s).args.tri.now (l s).loop-k.invariant.1.1 (omega (arith, (turn s))), (turn s))
+within : (s : After-triangle_at-its) → 3 * (k s) + 2 < length (l s).loop.tri
+within s = omega (arith, fill_length (3 * (k s)) (corner_in (line_of (u s))) (start s).args.tri.now (l s).loop.invariant.1.1 (omega (arith, (turn s))), (turn s))
 
 -- the place of each corner, and where it stands in bytes
 offset : (s : After-triangle_at-its) → (j : ℕ) → j ≤ 2 → Fits w64 ((3 * (k s) + j) * 2)
@@ -60,12 +60,12 @@ pub loop-k-preserved : goal.loop-k-preserved
 loop-k-preserved c =
     let n = (start (goal.at.loop-k-preserved c).After-triangle_at-its).args.n in
     let line = here (k (goal.at.loop-k-preserved c).After-triangle_at-its) (u (goal.at.loop-k-preserved c).After-triangle_at-its) (at (goal.at.loop-k-preserved c).After-triangle_at-its) in
-    let its : (j : ℕ) → number_of (field_of (present (drop (l (goal.at.loop-k-preserved c).After-triangle_at-its).loop-k.at (start (goal.at.loop-k-preserved c).After-triangle_at-its).args.text.now)) j) ≡ number_of (field_of (line_of (u (goal.at.loop-k-preserved c).After-triangle_at-its) (k (goal.at.loop-k-preserved c).After-triangle_at-its)) j) =
+    let its : (j : ℕ) → number_of (field_of (present (drop (l (goal.at.loop-k-preserved c).After-triangle_at-its).loop.at (start (goal.at.loop-k-preserved c).After-triangle_at-its).args.text.now)) j) ≡ number_of (field_of (line_of (u (goal.at.loop-k-preserved c).After-triangle_at-its) (k (goal.at.loop-k-preserved c).After-triangle_at-its)) j) =
     λ j. ap (λ (t : List ℕ). number_of (field_of t j)) line in (
       omega (arith, c.loop-k-test.true),
       (
         here_after (k (goal.at.loop-k-preserved c).After-triangle_at-its) (u (goal.at.loop-k-preserved c).After-triangle_at-its) (at (goal.at.loop-k-preserved c).After-triangle_at-its) (triangle_after n (k (goal.at.loop-k-preserved c).After-triangle_at-its) (seen (goal.at.loop-k-preserved c).After-triangle_at-its) (ok (goal.at.loop-k-preserved c).After-triangle_at-its)),
-        three_more (k (goal.at.loop-k-preserved c).After-triangle_at-its) (corner_in (line_of (u (goal.at.loop-k-preserved c).After-triangle_at-its))) (start (goal.at.loop-k-preserved c).After-triangle_at-its).args.tri.now (l (goal.at.loop-k-preserved c).After-triangle_at-its).loop-k.invariant.1.1 (turn (goal.at.loop-k-preserved c).After-triangle_at-its)
+        three_more (k (goal.at.loop-k-preserved c).After-triangle_at-its) (corner_in (line_of (u (goal.at.loop-k-preserved c).After-triangle_at-its))) (start (goal.at.loop-k-preserved c).After-triangle_at-its).args.tri.now (l (goal.at.loop-k-preserved c).After-triangle_at-its).loop.invariant.1.1 (turn (goal.at.loop-k-preserved c).After-triangle_at-its)
             (c.node_of.ensures ∙ corner_place (u (goal.at.loop-k-preserved c).After-triangle_at-its) (k (goal.at.loop-k-preserved c).After-triangle_at-its) 0 (omega arith) ((first_corner n (k (goal.at.loop-k-preserved c).After-triangle_at-its) (seen (goal.at.loop-k-preserved c).After-triangle_at-its) (ok (goal.at.loop-k-preserved c).After-triangle_at-its)).0 ∙ its 2))
             (c.node_of-in-loop-k.ensures ∙ corner_place (u (goal.at.loop-k-preserved c).After-triangle_at-its) (k (goal.at.loop-k-preserved c).After-triangle_at-its) 1 (omega arith) ((second_corner n (k (goal.at.loop-k-preserved c).After-triangle_at-its) (seen (goal.at.loop-k-preserved c).After-triangle_at-its) (ok (goal.at.loop-k-preserved c).After-triangle_at-its)).0 ∙ its 3))
             (c.node_of-in-loop-k-2.ensures ∙ corner_place (u (goal.at.loop-k-preserved c).After-triangle_at-its) (k (goal.at.loop-k-preserved c).After-triangle_at-its) 2 (omega arith) ((third_corner n (k (goal.at.loop-k-preserved c).After-triangle_at-its) (seen (goal.at.loop-k-preserved c).After-triangle_at-its) (ok (goal.at.loop-k-preserved c).After-triangle_at-its)).0 ∙ its 4)),

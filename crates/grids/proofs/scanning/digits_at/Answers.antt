@@ -14,25 +14,25 @@ abbrev text : (b : In-loop-j) → List ℕ
 text b = (start b).args.text.now
 
 abbrev at : (b : In-loop-j) → ℕ
-at b = (start b).args.from + (l b).loop-j.j
+at b = (start b).args.from + (l b).loop.j
 
 there : (b : In-loop-j) → (at b) < length (text b)
-there b = omega (arith, (l b).if-text-from-ge5.true, b.loop-j-test.true, (start b).requires)
+there b = omega (arith, (l b).if1.true, b.loop-j-test.true, (start b).requires)
 
-small : (b : In-loop-j) → (l b).loop-j.value < 100000
-small b = few (l b).loop-j.j (l b).loop-j.value (l b).loop-j.invariant.1.0 (l b).loop-j.invariant.0
+small : (b : In-loop-j) → (l b).loop.value < 100000
+small b = few (l b).loop.j (l b).loop.value (l b).loop.invariant.1.0 (l b).loop.invariant.0
 
 pub returns-then-digit-gt9 : goal.returns-then-digit-gt9
 returns-then-digit-gt9 c =
-    going_ends (l (goal.at.returns-then-digit-gt9 c).In-loop-j).loop-j.invariant.1.1 (digit_none _ _ (there (goal.at.returns-then-digit-gt9 c).In-loop-j) (digit_no _ _ c.wrapping_sub_u64-digit.ensures (omega (arith, c.wrapping_sub_u64-digit.type-inv)) c.if-digit-gt9.true)) (front_there _ _ (there (goal.at.returns-then-digit-gt9 c).In-loop-j)) (omega (arith, there (goal.at.returns-then-digit-gt9 c).In-loop-j))
+    going_ends (l (goal.at.returns-then-digit-gt9 c).In-loop-j).loop.invariant.1.1 (digit_none _ _ (there (goal.at.returns-then-digit-gt9 c).In-loop-j) (digit_no _ _ c.wrapping_sub_u64-digit.ensures (omega (arith, c.wrapping_sub_u64-digit.type_inv)) c.if-digit-gt9.true)) (front_there _ _ (there (goal.at.returns-then-digit-gt9 c).In-loop-j)) (omega (arith, there (goal.at.returns-then-digit-gt9 c).In-loop-j))
 
 pub loop-j-preserved : goal.loop-j-preserved
 loop-j-preserved c =
     let digit = digit_yes _ _ c.wrapping_sub_u64-digit.ensures c.if-digit-gt9.false in (
       omega (arith, c.loop-j-test.true),
       (
-        grown (l (goal.at.loop-j-preserved c).In-loop-j).loop-j.j (l (goal.at.loop-j-preserved c).In-loop-j).loop-j.value c.wrapping_sub_u64-digit.result (l (goal.at.loop-j-preserved c).In-loop-j).loop-j.invariant.1.0 c.if-digit-gt9.false,
-        going_more (l (goal.at.loop-j-preserved c).In-loop-j).loop-j.invariant.1.1 (there (goal.at.loop-j-preserved c).In-loop-j) digit.0 (omega (arith, digit.1, small (goal.at.loop-j-preserved c).In-loop-j, c.if-digit-gt9.false)) (omega arith),
+        grown (l (goal.at.loop-j-preserved c).In-loop-j).loop.j (l (goal.at.loop-j-preserved c).In-loop-j).loop.value c.wrapping_sub_u64-digit.result (l (goal.at.loop-j-preserved c).In-loop-j).loop.invariant.1.0 c.if-digit-gt9.false,
+        going_more (l (goal.at.loop-j-preserved c).In-loop-j).loop.invariant.1.1 (there (goal.at.loop-j-preserved c).In-loop-j) digit.0 (omega (arith, digit.1, small (goal.at.loop-j-preserved c).In-loop-j, c.if-digit-gt9.false)) (omega arith),
       ),
     )
 

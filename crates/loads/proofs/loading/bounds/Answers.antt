@@ -10,7 +10,7 @@ use Rattle.loads.proofs.loading.bounds.Goals as goal
 use Rattle.loads.proofs.loading.bounds.Goals.{After-tested-answer}
 
 its : (c : After-tested-answer) → let a = c.args in c.tested-answer.result ≡ row10_in (lines_of a.d) a.n a.text.now a.h.now c.loop-i.i
-its c = rw (c.tested-answer.ensures, c.in_bounds-inside.ensures, c.Node-at.ensures)
+its c = rw (c.tested-answer.ensures, c.in_bounds-inside.ensures, c.node_at.ensures)
 
 pub returns-then-answer-ne0 : goal.returns-then-answer-ne0
 returns-then-answer-ne0 c =

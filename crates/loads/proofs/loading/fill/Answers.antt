@@ -16,7 +16,7 @@ long l = ap length l.loop-i.invariant.1 ∙ runs_length _ _
 pub loop-i-init : goal.loop-i-init
 loop-i-init c =
     let a = c.args in
-    (omega arith, fill_none (lines_of a.d) a.n a.text.now a.h.now a.state-1.now c.requires.2)
+    (omega arith, fill_none (lines_of a.d) a.n a.text.now a.h.now a.state.now c.requires.2)
 
 pub node_at-requires : goal.node_at-requires
 node_at-requires c =
@@ -26,14 +26,14 @@ pub loop-i-preserved : goal.loop-i-preserved
 loop-i-preserved c =
     let p = c.loop-i in
     let a = c.args in
-    (omega arith, c.put_node.ensures ∙ fill_more (lines_of a.d) a.n a.text.now a.h.now a.state-1.now p.i c.loop-i-test.true p.invariant.1 c.Node-at.ensures)
+    (omega arith, c.put_node.ensures ∙ fill_more (lines_of a.d) a.n a.text.now a.h.now a.state.now p.i c.loop-i-test.true p.invariant.1 c.node_at.ensures)
 
 pub returns : goal.returns
 returns c =
     let a = c.args in
     let end : c.loop-i.i ≡ a.n = omega arith in
     let d = lines_of a.d in
-    c.loop-i.invariant.1 ∙ ap (filled_to d a.n a.text.now a.h.now a.state-1.now) end ∙ fill_all d a.n a.text.now a.h.now a.state-1.now
+    c.loop-i.invariant.1 ∙ ap (filled_to d a.n a.text.now a.h.now a.state.now) end ∙ fill_all d a.n a.text.now a.h.now a.state.now
 
 pub head_wind-held-requires : goal.head_wind-held-requires
 head_wind-held-requires c = c.requires.0

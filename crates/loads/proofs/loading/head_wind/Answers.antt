@@ -5,7 +5,7 @@ use Rattle.loads.proofs.loading.head_wind.Goals as goal
 pub returns : goal.returns
 unfolding head_wind
 returns c =
-    rw (c.float_at-2.ensures, c.Float-at.ensures, c.line_at-head.ensures)
+    rw (c.float_at-2.ensures, c.float_at.ensures, c.line_at-head.ensures)
 
 pub line_at-head-requires : goal.line_at-head-requires
 line_at-head-requires c = (c.requires, omega arith)

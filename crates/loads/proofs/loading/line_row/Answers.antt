@@ -5,7 +5,7 @@ use Rattle.loads.proofs.loading.line_row.Goals as goal
 pub returns : goal.returns
 unfolding line_rows line_fault
 returns c =
-    rw (c.Line-row.ensures, c.due-its.ensures.1, c.due-its.ensures.0, c.line_at-line.ensures)
+    rw (c.line_row.ensures, c.due-its.ensures.1, c.due-its.ensures.0, c.line_at-line.ensures)
 
 pub line_at-line-requires : goal.line_at-line-requires
 line_at-line-requires c = c.requires

@@ -19,11 +19,11 @@ loop-j-init c = (search rules, below_none _)
 
 pub returns-then-answer-ne0 : goal.returns-then-answer-ne0
 returns-then-answer-ne0 c =
-    let e = c.Line-row.ensures in
+    let e = c.line_row-answer.ensures in
     e ∙ sym (scan_hit _ _ _ (within (goal.at.returns-then-answer-ne0 c).In-loop-j) c.loop-j.invariant.1 (other_number e c.if-answer-ne0.true))
 
 pub loop-j-preserved : goal.loop-j-preserved
-loop-j-preserved c = (search rules, below_more _ _ c.loop-j.invariant.1 (same_number c.Line-row.ensures c.if-answer-ne0.false))
+loop-j-preserved c = (search rules, below_more _ _ c.loop-j.invariant.1 (same_number c.line_row-answer.ensures c.if-answer-ne0.false))
 
 pub returns : goal.returns
 returns c =

@@ -6,7 +6,7 @@ use Rattle.location.proofs.seeking.twice_area.Goals.{After-struct_told-1}
 
 its : (c : After-struct_told-1) → Fit c.args.s
 its c =
-    let g = c.struct_told-1.given in
+    let g = c.struct_told.given in
     fitted _ c.requires g.1.0.1 g.1.1.0.1 g.1.1.1.1.0.1 g.1.1.1.1.1.0.1
 
 pub overflow_mul-result : goal.overflow_mul-result

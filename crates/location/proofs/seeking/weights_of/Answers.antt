@@ -10,8 +10,8 @@ use Rattle.location.proofs.seeking.weights_of.Goals.{After-sides_of, After-sides
 
 placed : (s : Start) → Placed s.args.c s.args.p
 placed s =
-    let c = s.well-formed.0.1.1 in
-    let p = s.well-formed.1.0.1.1 in
+    let c = s.well_formed.0.1.1 in
+    let p = s.well_formed.1.0.1.1 in
     record { near = s.requires; x1 = c.0.1; y1 = c.1.1.1.0.1; x = p.0.1; y = p.1.0.1 }
 
 -- the sides with the point for corner 2, and for corner 3
@@ -36,15 +36,15 @@ start c = c
 w2 : (c : After-twice_area-d) → to_z w64 (of_z w64 c.twice_area-w2.result) ≡ D (sides_at (for_second (start c).args.c (start c).args.p))
 w2 c =
     let second : let a = c.args in c.sides_of.result ≡ sides_at (for_second a.c a.p) = c.sides_of.ensures ∙ ap sides_at c.for_second.ensures in
-    kept c.twice_area-w2.type-inv (c.twice_area-w2.ensures ∙ ap D (second))
+    kept c.twice_area-w2.type_inv (c.twice_area-w2.ensures ∙ ap D (second))
 
 w3 : (c : After-twice_area-d) → to_z w64 (of_z w64 c.twice_area-w3.result) ≡ D (sides_at (for_third (start c).args.c (start c).args.p))
 w3 c =
     let third : let a = c.args in c.sides_of-2.result ≡ sides_at (for_third a.c a.p) = c.sides_of-2.ensures ∙ ap sides_at c.for_third.ensures in
-    kept c.twice_area-w3.type-inv (c.twice_area-w3.ensures ∙ ap D (third))
+    kept c.twice_area-w3.type_inv (c.twice_area-w3.ensures ∙ ap D (third))
 
 d : (c : After-twice_area-d) → to_z w64 (of_z w64 c.twice_area-d.result) ≡ D (sides_at (start c).args.c)
-d c = kept c.twice_area-d.type-inv (c.twice_area-d.ensures ∙ ap D c.sides_of-3.ensures)
+d c = kept c.twice_area-d.type_inv (c.twice_area-d.ensures ∙ ap D c.sides_of-3.ensures)
 
 pub overflow_sub-w1 : goal.overflow_sub-w1
 overflow_sub-w1 c =

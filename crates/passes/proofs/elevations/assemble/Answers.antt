@@ -47,7 +47,7 @@ turned t =
 
 pub loop-t-init : goal.loop-t-init
 loop-t-init c =
-    (zero≤, (cleared_room (its (goal.at.loop-t-init c).Start) _ c.requires.1.0 c.clear.ensures ∙ sum_none (its (goal.at.loop-t-init c).Start), c.Clear-whole.ensures ∙ ap (λ (n : ℕ). table n (λ _. 0)) c.requires.1.1 ∙ S_none (its (goal.at.loop-t-init c).Start)))
+    (zero≤, (cleared_room (its (goal.at.loop-t-init c).Start) _ c.requires.1.0 c.clear.ensures ∙ sum_none (its (goal.at.loop-t-init c).Start), c.clear_whole.ensures ∙ ap (λ (n : ℕ). table n (λ _. 0)) c.requires.1.1 ∙ S_none (its (goal.at.loop-t-init c).Start)))
 
 pub places_at-q-requires : goal.places_at-q-requires
 places_at-q-requires c =

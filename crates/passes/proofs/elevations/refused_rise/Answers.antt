@@ -22,7 +22,7 @@ in-h : (t : In-loop-i) → t.loop-i.i < length t.args.h.now
 in-h t = below_length Float t.args.h.now _ _ t.requires.0 t.loop-i-test.true
 
 at : (t : In-loop-i) → let a = t.args in Place 0 a.n t.loop-i.i (length a.work.now)
-at t = place 0 work_runs tt t.loop-i-test.true t.requires.1 refl t.well-formed.1.1.0.1
+at t = place 0 work_runs tt t.loop-i-test.true t.requires.1 refl t.well_formed.1.1.0.1
 
 turned : (t : In-loop-i) → Turned t.args.n t.loop-i.i
 turned t = turn t.loop-i-test.true t.ranges.n.fits
@@ -44,7 +44,7 @@ pub loop-i-init : goal.loop-i-init
 loop-i-init c = (zero≤, below_none _)
 
 pub offset_bounds-h-i : goal.offset_bounds-h-i
-offset_bounds-h-i c = scaled_Fits _ _ 8 (in-h (goal.at.offset_bounds-h-i c).In-loop-i) c.well-formed.1.0.1
+offset_bounds-h-i c = scaled_Fits _ _ 8 (in-h (goal.at.offset_bounds-h-i c).In-loop-i) c.well_formed.1.0.1
 
 pub bounds-h-i : goal.bounds-h-i
 bounds-h-i c = in-h (goal.at.bounds-h-i c).In-loop-i

@@ -58,7 +58,7 @@ at : (t : In-loop-i) → Place 0 (length t.args.x.now) t.loop-i.i (length t.loop
 at t =
     let long : length t.loop-i.work ≡ work_runs * length t.args.x.now = ap length t.loop-i.invariant.1.0 ∙ runs_length _ _ in
     let same : length t.loop-i.work ≡ length t.args.work.now = long t ∙ sym (ap length t.requires.1.0 ∙ runs_length _ _) in
-    place 0 work_runs tt t.loop-i-test.true (long) (same) t.well-formed.0.1
+    place 0 work_runs tt t.loop-i-test.true (long) (same) t.well_formed.0.1
 
 pub loop-i-init : goal.loop-i-init
 loop-i-init c = (zero≤, (c.requires.1.0 ∙ rise_none (its (goal.at.loop-i-init c).Start), all_none _))
@@ -70,7 +70,7 @@ loop-i-preserved c =
     let h = c.loop-i-test.true in
     let r = its_rise g (fits (goal.at.loop-i-preserved c).At-loop-i) i h c.requires.1.1 c.loop-i.invariant.1.0 c.node_of-c.ensures c.sum_of-s.ensures c.rise_of-z.ensures in
     let asked = c.rise_row.ensures ∙ (λ j. rise_row (c.node_of-c.ensures j).h (r j) i) in
-    ((turn h c.well-formed.1.1.0.0).next, (rise_more g (fits (goal.at.loop-i-preserved c).At-loop-i) i h c.loop-i.invariant.1.0 r, all_more (row_at g) i c.loop-i.invariant.1.1 (ap (λ (a : Answer). eqb c.number 0) asked)))
+    ((turn h c.well_formed.1.1.0.0).next, (rise_more g (fits (goal.at.loop-i-preserved c).At-loop-i) i h c.loop-i.invariant.1.0 r, all_more (row_at g) i c.loop-i.invariant.1.1 (ap (λ (a : Answer). eqb c.number 0) asked)))
 
 pub returns-then-all : goal.returns-then-all
 returns-then-all c =

@@ -12,7 +12,7 @@ use Rattle.passes.proofs.reading.area_of.Goals as goal
 use Rattle.passes.proofs.reading.area_of.Goals.{After-twice_area}
 
 its : (c : After-twice_area) → to_z w64 (of_z w64 c.twice_area.result) ≡ D c.args.s
-its c = kept c.twice_area.type-inv c.twice_area.ensures
+its c = kept c.twice_area.type_inv c.twice_area.ensures
 
 pub overflow_cast-result : goal.overflow_cast-result
 overflow_cast-result c =

@@ -28,8 +28,8 @@ returns-then-on c =
     let at = nodes_of x.c in
     let n = x.n in
     c.spread-then-on.ensures
-    ∙ (λ i. spread floating nan (past (4 * n) at) (c.alike-then-on.ensures i) ((c.spread.ensures ∙ ap (λ (v : Three Float). spread floating nan (past (3 * n) at) v x.work-1.now) c.alike.ensures) i))
-    ∙ rw c.if-on.true (ap (λ (k : Advection). spread_both n at k x.work-1.now) c.advection_of-a.ensures)
+    ∙ (λ i. spread floating nan (past (4 * n) at) (c.alike-then-on.ensures i) ((c.spread.ensures ∙ ap (λ (v : Three Float). spread floating nan (past (3 * n) at) v x.work.now) c.alike.ensures) i))
+    ∙ rw c.if-on.true (ap (λ (k : Advection). spread_both n at k x.work.now) c.advection_of-a.ensures)
 
 pub returns-else-on : goal.returns-else-on
 returns-else-on c = rw c.if-on.false

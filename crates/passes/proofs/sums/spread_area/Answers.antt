@@ -13,7 +13,7 @@ use Rattle.passes.proofs.sums.spread_area.Goals.{After-add_area, After-add_area-
 long1 : (c : After-add_area) → length c.add_area.new.sums ≡ length c.args.sums.now
 long1 c = ap length c.add_area.ensures ∙ length_added whole 0 _ _ _
 
-free1 : (c : tie.After-add-area) (i : ℕ) → get_or c.add_area.new.sums i 0 + 2 * c.args.d < 2 ^ 53
+free1 : (c : After-add_area) (i : ℕ) → get_or c.add_area.new.sums i 0 + 2 * c.args.d < 2 ^ 53
 free1 c i =
     rw c.add_area.ensures (omega (arith, added_le c.args.sums.now c.args.c.n1 c.args.d i c.requires.below.first, c.requires.by_index i))
 
@@ -22,8 +22,9 @@ long2 c =
     let long1 : length c.add_area.new.sums ≡ length c.args.sums.now = ap length c.add_area.ensures ∙ length_added whole 0 _ _ _ in
     ap length c.add_area-2.ensures ∙ length_added whole 0 _ _ _ ∙ long1
 
-free2 : (c : tie.After-add-area2) (i : ℕ) → get_or c.add_area-2.new.sums i 0 + c.args.d < 2 ^ 53
+free2 : (c : After-add_area-2) (i : ℕ) → get_or c.add_area-2.new.sums i 0 + c.args.d < 2 ^ 53
 free2 c i =
+    let long1 : length c.add_area.new.sums ≡ length c.args.sums.now = ap length c.add_area.ensures ∙ length_added whole 0 _ _ _ in
     rw c.add_area-2.ensures (omega (arith, added_le c.add_area.new.sums c.args.c.n2 c.args.d i (rw (long1) c.requires.below.second), free1 c i))
 
 pub add_area-requires : goal.add_area-requires
@@ -31,11 +32,11 @@ add_area-requires c = (c.requires.below.first, omega (arith, c.requires.by_index
 
 pub add_area-requires-2 : goal.add_area-requires-2
 add_area-requires-2 c =
-    (rw (long1 (goal.at.add_area-requires-2 c).After-add_area) c.requires.below.second, omega (arith, free1 c c.args.c.n2))
+    (rw (long1 (goal.at.add_area-requires-2 c).After-add_area) c.requires.below.second, omega (arith, free1 (goal.at.add_area-requires-2 c).After-add_area c.args.c.n2))
 
 pub add_area-requires-3 : goal.add_area-requires-3
 add_area-requires-3 c =
-    (rw (long2 (goal.at.add_area-requires-3 c).After-add_area-2) c.requires.below.third, free2 c c.args.c.n3)
+    (rw (long2 (goal.at.add_area-requires-3 c).After-add_area-2) c.requires.below.third, free2 (goal.at.add_area-requires-3 c).After-add_area-2 c.args.c.n3)
 
 pub returns : goal.returns
 unfolding spread

@@ -23,7 +23,7 @@ long l = ap length l.loop-i.invariant.1 ∙ up_length _ _ _ (omega (arith, l.req
 at : (t : In-loop-i) → Place 1 t.args.n t.loop-i.i (length t.loop-i.next)
 at t =
     let long : length t.loop-i.next ≡ length t.args.next.now = ap length t.loop-i.invariant.1 ∙ up_length _ _ _ (omega (arith, t.requires)) in
-    place 1 state_runs tt t.loop-i-test.true (long ∙ t.requires) (long) t.well-formed.0.1
+    place 1 state_runs tt t.loop-i-test.true (long ∙ t.requires) (long) t.well_formed.0.1
 
 inside : (t : In-loop-i) → t.loop-i.i < length t.loop-i.next
 inside t = omega (arith, (at t).within)
@@ -31,7 +31,7 @@ inside t = omega (arith, (at t).within)
 bytes : (t : In-loop-i) → Fits w64 (t.loop-i.i * 8)
 bytes t =
     let long : length t.loop-i.next ≡ length t.args.next.now = ap length t.loop-i.invariant.1 ∙ up_length _ _ _ (omega (arith, t.requires)) in
-    scaled_Fits _ _ 8 (rw (long) at (inside t)) t.well-formed.0.1
+    scaled_Fits _ _ 8 (rw (long) at (inside t)) t.well_formed.0.1
 
 pub loop-i-preserved : goal.loop-i-preserved
 loop-i-preserved c =

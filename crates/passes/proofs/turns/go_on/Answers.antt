@@ -21,7 +21,7 @@ abbrev net : Start → Mesh
 net s = let a = s.args in mesh a.x.now a.y.now a.tri.now a.h.now a.kind.now
 
 abbrev its : Start → Given
-its s = let a = s.args in of_forcing (net s) a.p a.f.now a.next-1.now
+its s = let a = s.args in of_forcing (net s) a.p a.f.now a.next.now
 
 -- rows 11 and 12
 answered : (c : After-first-first) → c.first-first.result ≡ (row11 c.args.step then row12 (N ((let a = c.args in mesh a.x.now a.y.now a.tri.now a.h.now a.kind.now))) c.args.f.now)
@@ -45,8 +45,8 @@ pub returns : goal.returns
 unfolding later_rows
 returns c =
     let a = c.args in
-    let same : given (net (goal.at.returns c).Start) a.p a.next-1.now (elevation_of a.f.now) (take (length a.f.now - 1) (winds_of a.f.now)) ≡ its (goal.at.returns c).Start =
-    λ i. given (net (goal.at.returns c).Start) a.p a.next-1.now (elevation_of a.f.now) (past_first a.f.now i) in (
+    let same : given (net (goal.at.returns c).Start) a.p a.next.now (elevation_of a.f.now) (take (length a.f.now - 1) (winds_of a.f.now)) ≡ its (goal.at.returns c).Start =
+    λ i. given (net (goal.at.returns c).Start) a.p a.next.now (elevation_of a.f.now) (past_first a.f.now i) in (
       goes _ (same_number (answered (goal.at.returns c).After-first-first) c.if-first-ne0.false) (c.work_on.ensures.0 ∙ ap row13 same),
-      c.work_on.ensures.1 ∙ (λ i. cond (eqb c.work_on.result.number 0) (next_state (same i)) a.next-1.now),
+      c.work_on.ensures.1 ∙ (λ i. cond (eqb c.work_on.result.number 0) (next_state (same i)) a.next.now),
     )

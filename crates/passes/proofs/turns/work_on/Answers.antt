@@ -9,7 +9,7 @@ use Rattle.passes.proofs.turns.work_on.Goals as goal
 use Rattle.passes.proofs.turns.work_on.Goals.{Start}
 
 abbrev its : Start → Given
-its s = let a = s.args in given (mesh a.x.now a.y.now a.tri.now a.h.now a.kind.now) a.p a.next-1.now a.elevation a.winds.now
+its s = let a = s.args in given (mesh a.x.now a.y.now a.tri.now a.h.now a.kind.now) a.p a.next.now a.elevation a.winds.now
 
 pub returns-then-answer-eq0 : goal.returns-then-answer-eq0
 returns-then-answer-eq0 c =

@@ -17,7 +17,7 @@ use Rattle.passes.specs.Settle.{work_runs}
 use Rattle.passes.specs.Private.{Fits, flow_room}
 use Rattle.passes.proofs.PassLaws.{Place, place, turn, flows_to, its_flow, flow_more, flow_none, flow_all}
 use Rattle.passes.proofs.velocities.flows.Goals as goal
-use Rattle.passes.proofs.velocities.flows.Goals.{After-loop-i, At-loop-i, Start}
+use Rattle.passes.proofs.velocities.flows.Goals.{After-loop-i, At-loop-i, In-loop-i, Start}
 
 -- row 13 of U' and V' at a node
 abbrev row_at : Given → ℕ → Answer
@@ -47,8 +47,11 @@ all : (c : After-loop-i) → c.loop-i.work ≡ flow_room (((let a = c.args in gi
 all c = let g = ((let a = c.args in given (mesh a.x.now a.y.now a.tri.now a.h.now a.kind.now) a.p a.state.now a.elevation a.winds.now)) in c.loop-i.invariant.1.0 ∙ ap (flows_to g) (done c) ∙ flow_all g
 
 -- place i of run k
-at : (t : tie.In-loop) (k : ℕ) → T (ltb k work_runs) → Place k (length t.args.x.now) t.loop-i.i (length t.loop-i.work)
-at t k h = place k work_runs h t.loop-i-test.true (long) (same) t.well-formed.0.1
+at : (t : In-loop-i) (k : ℕ) → T (ltb k work_runs) → Place k (length t.args.x.now) t.loop-i.i (length t.loop-i.work)
+at t k h =
+    let long : length t.loop-i.work ≡ work_runs * length t.args.x.now = ap length t.loop-i.invariant.1.0 ∙ runs_length _ _ in
+    let same : length t.loop-i.work ≡ length t.args.work.now = long t ∙ sym (ap length t.requires.1.0 ∙ runs_length _ _) in
+    place k work_runs h t.loop-i-test.true (long) (same) t.well_formed.0.1
 
 pub loop-i-preserved : goal.loop-i-preserved
 loop-i-preserved c =
@@ -57,7 +60,7 @@ loop-i-preserved c =
     let h = c.loop-i-test.true in
     let r = its_flow g (fits (goal.at.loop-i-preserved c).At-loop-i) i h c.requires.1.1 c.loop-i.invariant.1.0 c.flow_at-v.ensures in
     let asked = c.flow_row.ensures ∙ (λ j. flow_row (r j) i) in
-    ((turn h c.well-formed.1.1.0.0).next, (flow_more g (fits (goal.at.loop-i-preserved c).At-loop-i) i h c.loop-i.invariant.1.0 r, all_more (row_at g) i c.loop-i.invariant.1.1 (ap (λ (a : Answer). eqb c.number 0) asked)))
+    ((turn h c.well_formed.1.1.0.0).next, (flow_more g (fits (goal.at.loop-i-preserved c).At-loop-i) i h c.loop-i.invariant.1.0 r, all_more (row_at g) i c.loop-i.invariant.1.1 (ap (λ (a : Answer). eqb c.number 0) asked)))
 
 pub returns-then-all : goal.returns-then-all
 returns-then-all c =
@@ -70,88 +73,88 @@ pub loop-i-init : goal.loop-i-init
 loop-i-init c = (zero≤, (c.requires.1.0 ∙ flow_none (its (goal.at.loop-i-init c).Start), all_none _))
 
 pub overflow_mul-z : goal.overflow_mul-z
-overflow_mul-z c = (at c 0 tt).run
+overflow_mul-z c = (at (goal.at.overflow_mul-z c).In-loop-i 0 tt).run
 
 pub overflow_add-z : goal.overflow_add-z
-overflow_add-z c = (at c 0 tt).at
+overflow_add-z c = (at (goal.at.overflow_add-z c).In-loop-i 0 tt).at
 
 pub offset_bounds-work-n : goal.offset_bounds-work-n
-offset_bounds-work-n c = (at c 0 tt).bytes
+offset_bounds-work-n c = (at (goal.at.offset_bounds-work-n c).In-loop-i 0 tt).bytes
 
 pub bounds-work-n : goal.bounds-work-n
-bounds-work-n c = (at c 0 tt).within
+bounds-work-n c = (at (goal.at.bounds-work-n c).In-loop-i 0 tt).within
 
 pub overflow_mul-px : goal.overflow_mul-px
-overflow_mul-px c = (at c 1 tt).run
+overflow_mul-px c = (at (goal.at.overflow_mul-px c).In-loop-i 1 tt).run
 
 pub overflow_add-px : goal.overflow_add-px
-overflow_add-px c = (at c 1 tt).at
+overflow_add-px c = (at (goal.at.overflow_add-px c).In-loop-i 1 tt).at
 
 pub offset_bounds-work-n-in-loop-i : goal.offset_bounds-work-n-in-loop-i
-offset_bounds-work-n-in-loop-i c = (at c 1 tt).bytes
+offset_bounds-work-n-in-loop-i c = (at (goal.at.offset_bounds-work-n-in-loop-i c).In-loop-i 1 tt).bytes
 
 pub bounds-work-n-in-loop-i : goal.bounds-work-n-in-loop-i
-bounds-work-n-in-loop-i c = (at c 1 tt).within
+bounds-work-n-in-loop-i c = (at (goal.at.bounds-work-n-in-loop-i c).In-loop-i 1 tt).within
 
 pub overflow_mul-py : goal.overflow_mul-py
-overflow_mul-py c = (at c 2 tt).run
+overflow_mul-py c = (at (goal.at.overflow_mul-py c).In-loop-i 2 tt).run
 
 pub overflow_add-py : goal.overflow_add-py
-overflow_add-py c = (at c 2 tt).at
+overflow_add-py c = (at (goal.at.overflow_add-py c).In-loop-i 2 tt).at
 
 pub offset_bounds-work-n-in-loop-i-2 : goal.offset_bounds-work-n-in-loop-i-2
-offset_bounds-work-n-in-loop-i-2 c = (at c 2 tt).bytes
+offset_bounds-work-n-in-loop-i-2 c = (at (goal.at.offset_bounds-work-n-in-loop-i-2 c).In-loop-i 2 tt).bytes
 
 pub bounds-work-n-in-loop-i-2 : goal.bounds-work-n-in-loop-i-2
-bounds-work-n-in-loop-i-2 c = (at c 2 tt).within
+bounds-work-n-in-loop-i-2 c = (at (goal.at.bounds-work-n-in-loop-i-2 c).In-loop-i 2 tt).within
 
 pub overflow_mul-au : goal.overflow_mul-au
-overflow_mul-au c = (at c 3 tt).run
+overflow_mul-au c = (at (goal.at.overflow_mul-au c).In-loop-i 3 tt).run
 
 pub overflow_add-au : goal.overflow_add-au
-overflow_add-au c = (at c 3 tt).at
+overflow_add-au c = (at (goal.at.overflow_add-au c).In-loop-i 3 tt).at
 
 pub offset_bounds-work-n-in-loop-i-3 : goal.offset_bounds-work-n-in-loop-i-3
-offset_bounds-work-n-in-loop-i-3 c = (at c 3 tt).bytes
+offset_bounds-work-n-in-loop-i-3 c = (at (goal.at.offset_bounds-work-n-in-loop-i-3 c).In-loop-i 3 tt).bytes
 
 pub bounds-work-n-in-loop-i-3 : goal.bounds-work-n-in-loop-i-3
-bounds-work-n-in-loop-i-3 c = (at c 3 tt).within
+bounds-work-n-in-loop-i-3 c = (at (goal.at.bounds-work-n-in-loop-i-3 c).In-loop-i 3 tt).within
 
 pub overflow_mul-av : goal.overflow_mul-av
-overflow_mul-av c = (at c 4 tt).run
+overflow_mul-av c = (at (goal.at.overflow_mul-av c).In-loop-i 4 tt).run
 
 pub overflow_add-av : goal.overflow_add-av
-overflow_add-av c = (at c 4 tt).at
+overflow_add-av c = (at (goal.at.overflow_add-av c).In-loop-i 4 tt).at
 
 pub offset_bounds-work-n-in-loop-i-4 : goal.offset_bounds-work-n-in-loop-i-4
-offset_bounds-work-n-in-loop-i-4 c = (at c 4 tt).bytes
+offset_bounds-work-n-in-loop-i-4 c = (at (goal.at.offset_bounds-work-n-in-loop-i-4 c).In-loop-i 4 tt).bytes
 
 pub bounds-work-n-in-loop-i-4 : goal.bounds-work-n-in-loop-i-4
-bounds-work-n-in-loop-i-4 c = (at c 4 tt).within
+bounds-work-n-in-loop-i-4 c = (at (goal.at.bounds-work-n-in-loop-i-4 c).In-loop-i 4 tt).within
 
 pub overflow_mul-work : goal.overflow_mul-work
-overflow_mul-work c = (at c 1 tt).run
+overflow_mul-work c = (at (goal.at.overflow_mul-work c).In-loop-i 1 tt).run
 
 pub overflow_add-work : goal.overflow_add-work
-overflow_add-work c = (at c 1 tt).at
+overflow_add-work c = (at (goal.at.overflow_add-work c).In-loop-i 1 tt).at
 
 pub offset_bounds-work-n-in-loop-i-5 : goal.offset_bounds-work-n-in-loop-i-5
-offset_bounds-work-n-in-loop-i-5 c = (at c 1 tt).bytes
+offset_bounds-work-n-in-loop-i-5 c = (at (goal.at.offset_bounds-work-n-in-loop-i-5 c).In-loop-i 1 tt).bytes
 
 pub bounds-work-n-in-loop-i-5 : goal.bounds-work-n-in-loop-i-5
-bounds-work-n-in-loop-i-5 c = (at c 1 tt).within
+bounds-work-n-in-loop-i-5 c = (at (goal.at.bounds-work-n-in-loop-i-5 c).In-loop-i 1 tt).within
 
 pub overflow_mul-work-in-loop-i : goal.overflow_mul-work-in-loop-i
-overflow_mul-work-in-loop-i c = (at c 2 tt).run
+overflow_mul-work-in-loop-i c = (at (goal.at.overflow_mul-work-in-loop-i c).In-loop-i 2 tt).run
 
 pub overflow_add-work-in-loop-i : goal.overflow_add-work-in-loop-i
-overflow_add-work-in-loop-i c = (at c 2 tt).at
+overflow_add-work-in-loop-i c = (at (goal.at.overflow_add-work-in-loop-i c).In-loop-i 2 tt).at
 
 pub offset_bounds-work-n-in-loop-i-6 : goal.offset_bounds-work-n-in-loop-i-6
-offset_bounds-work-n-in-loop-i-6 c = (at c 2 tt).bytes
+offset_bounds-work-n-in-loop-i-6 c = (at (goal.at.offset_bounds-work-n-in-loop-i-6 c).In-loop-i 2 tt).bytes
 
 pub bounds-work-n-in-loop-i-6 : goal.bounds-work-n-in-loop-i-6
-bounds-work-n-in-loop-i-6 c = simp length-set (at c 2 tt).within
+bounds-work-n-in-loop-i-6 c = simp length-set (at (goal.at.bounds-work-n-in-loop-i-6 c).In-loop-i 2 tt).within
 
 pub overflow_step-i : goal.overflow_step-i
 overflow_step-i c = (turn c.loop-i-test.true c.good.1.1.0.0).fits

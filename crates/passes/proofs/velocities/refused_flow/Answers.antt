@@ -18,8 +18,8 @@ abbrev row : At-loop-i → ℕ → Answer
 row l k = let a = l.args in flow_row (record { u = in_run a.n 1 a.work.now k; v = in_run a.n 2 a.work.now k }) k
 
 -- place i of run k, and the end of a turn
-at : (t : tie.In-loop) (k : ℕ) → T (ltb k work_runs) → let a = t.args in Place k a.n t.loop-i.i (length a.work.now)
-at t k h = place k work_runs h t.loop-i-test.true t.requires refl t.well-formed.1.0.1
+at : (t : In-loop-i) (k : ℕ) → T (ltb k work_runs) → let a = t.args in Place k a.n t.loop-i.i (length a.work.now)
+at t k h = place k work_runs h t.loop-i-test.true t.requires refl t.well_formed.1.0.1
 
 turned : (t : In-loop-i) → Turned t.args.n t.loop-i.i
 turned t = turn t.loop-i-test.true t.ranges.n.fits
@@ -41,28 +41,28 @@ pub loop-i-init : goal.loop-i-init
 loop-i-init c = (zero≤, below_none _)
 
 pub overflow_mul-u : goal.overflow_mul-u
-overflow_mul-u c = (at c 1 tt).run
+overflow_mul-u c = (at (goal.at.overflow_mul-u c).In-loop-i 1 tt).run
 
 pub overflow_add-u : goal.overflow_add-u
-overflow_add-u c = (at c 1 tt).at
+overflow_add-u c = (at (goal.at.overflow_add-u c).In-loop-i 1 tt).at
 
 pub offset_bounds-work-n : goal.offset_bounds-work-n
-offset_bounds-work-n c = (at c 1 tt).bytes
+offset_bounds-work-n c = (at (goal.at.offset_bounds-work-n c).In-loop-i 1 tt).bytes
 
 pub bounds-work-n : goal.bounds-work-n
-bounds-work-n c = (at c 1 tt).within
+bounds-work-n c = (at (goal.at.bounds-work-n c).In-loop-i 1 tt).within
 
 pub overflow_mul-v : goal.overflow_mul-v
-overflow_mul-v c = (at c 2 tt).run
+overflow_mul-v c = (at (goal.at.overflow_mul-v c).In-loop-i 2 tt).run
 
 pub overflow_add-v : goal.overflow_add-v
-overflow_add-v c = (at c 2 tt).at
+overflow_add-v c = (at (goal.at.overflow_add-v c).In-loop-i 2 tt).at
 
 pub offset_bounds-work-n-in-loop-i : goal.offset_bounds-work-n-in-loop-i
-offset_bounds-work-n-in-loop-i c = (at c 2 tt).bytes
+offset_bounds-work-n-in-loop-i c = (at (goal.at.offset_bounds-work-n-in-loop-i c).In-loop-i 2 tt).bytes
 
 pub bounds-work-n-in-loop-i : goal.bounds-work-n-in-loop-i
-bounds-work-n-in-loop-i c = (at c 2 tt).within
+bounds-work-n-in-loop-i c = (at (goal.at.bounds-work-n-in-loop-i c).In-loop-i 2 tt).within
 
 pub overflow_step-i : goal.overflow_step-i
 overflow_step-i c = (turned (goal.at.overflow_step-i c).In-loop-i).fits

@@ -27,7 +27,7 @@ returns c =
       ),
       (
         c.clear.ensures ∙ ap zeros (c.solve-answer.auto.work ∙ c.requires.1.1),
-        c.Clear-whole.ensures ∙ ap (λ (n : ℕ). table n (λ _. 0)) (c.solve-answer.auto.sums ∙ c.requires.1.2),
+        c.clear_whole.ensures ∙ ap (λ (n : ℕ). table n (λ _. 0)) (c.solve-answer.auto.sums ∙ c.requires.1.2),
       ),
     )
 

@@ -19,7 +19,7 @@ returns-then-j-eq1 c = rw (c.run_line.ensures, c.if-j-eq1.true) refl
 
 pub returns-then-j-n : goal.returns-then-j-n
 returns-then-j-n c =
-    c.node_line_lem.ensures ∙ ap (λ f. holding (text f)) (node_line_lem (its (goal.at.returns-then-j-n c).Start) c.args.j (omega arith) (omega arith))
+    c.node_line.ensures ∙ ap (λ f. holding (text f)) (node_line_lem (its (goal.at.returns-then-j-n c).Start) c.args.j (omega arith) (omega arith))
 
 pub returns-else-j-n : goal.returns-else-j-n
 returns-else-j-n c =

@@ -21,7 +21,7 @@ loop-j-init c = (omega arith, refl, refl)
 pub loop-j-preserved : goal.loop-j-preserved
 loop-j-preserved c =
     let i = c.loop-j.invariant in
-    put_next (its (goal.at.loop-j-preserved c).Start) c.args.text.now (omega arith) c.loop-j.j (omega arith) i.2 i.1 c.Line-of.ensures c.put-at.ensures
+    put_next (its (goal.at.loop-j-preserved c).Start) c.args.text.now (omega arith) c.loop-j.j (omega arith) i.2 i.1 c.line_of.ensures c.put-at.ensures
 
 pub shape_of-text : goal.shape_of-text
 shape_of-text c =
