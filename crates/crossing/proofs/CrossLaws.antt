@@ -104,7 +104,7 @@ unfolding signed
 lowered v l h = rw (lt-ltb v (2 ^ 63) (omega arith), le-ltb v (2 ^ 31) l)
 
 pub lowered_kept : (v : ℕ) → 2 ^ 31 ≤ v → v < 2 ^ 32 → to_z w64 (of_z w64 (to_z w64 v -ℤ pos (2 ^ 32))) ≡ signed v
-lowered_kept v l h = rw (lowered v l h) (to_z-of_z (sfits_widen tt (signed_fits v h)))
+lowered_kept v l h = rw (lowered v l h) (to_z-of_z {w = w64} (sfits_widen tt (signed_fits v h)))
 
 -- ---- and its pattern
 pub unsigned_small : (z : ℤ) → SFits w32 z → unsigned z < 2 ^ 32

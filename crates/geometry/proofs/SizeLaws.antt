@@ -87,10 +87,10 @@ pub kept : {r z : ℤ} → mag r < 2 ^ 63 → r ≡ z → to_z w64 (of_z w64 r) 
 kept ok e = kept_as w64 (record { sfits = ok }) e
 
 -- ---- a whole number of at most 2^53 is a float without loss
-pub in_float : (z : ℤ) → nat_abs z ≤ 2 ^ 53 → T (in_float binary64 z)
+pub in_float_lem : (z : ℤ) → nat_abs z ≤ 2 ^ 53 → T (in_float binary64 z)
 unfolding in_float
-in_float (pos n) h = le→leb n (2 ^ 53) h
-in_float (negsuc n) h = lt→ltb n (2 ^ 53) h
+in_float_lem (pos n) h = le→leb n (2 ^ 53) h
+in_float_lem (negsuc n) h = lt→ltb n (2 ^ 53) h
 
 pub lossless : (z : ℤ) → nat_abs z ≤ 2 ^ 53 → Lossless z
 unfolding of_int

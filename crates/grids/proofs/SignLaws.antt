@@ -3,7 +3,7 @@ use Rattle.std.proofs.Common.{◌≡◌, ℕ, zero, suc, ◌^◌, ◌≤◌, Boo
 use lib.IntN.{+ℤ_idl}
 use lib.Ieee.{binary64, in_float}
 use mir.Facts.{to_z_pos}
-use Rattle.geometry.proofs.SizeLaws.{holds, in_float}
+use Rattle.geometry.proofs.SizeLaws.{holds, in_float_lem}
 use Rattle.grids.specs.Numbers.{signed, in32}
 use Rattle.grids.proofs.RowLaws.{in_32}
 
@@ -37,7 +37,7 @@ module _ (v : ℕ) (small : v ≤ 2 ^ 53) where
   handed m e = ap (λ (z : ℤ). to_z w64 (of_z w64 z)) e ∙ to_z-of_z {w = w64} (signed_64 m)
 
   pub signed_float : (m : Bool) → T (in_float binary64 (signed m v))
-  signed_float m = in_float (signed m v) (omega (arith, size_signed m v))
+  signed_float m = in_float_lem (signed m v) (omega (arith, size_signed m v))
 
 -- ---- 32 bits
 pub size_32 : (m : Bool) (v : ℕ) → in32 (signed m v) ≡ true → v ≤ 2147483648
