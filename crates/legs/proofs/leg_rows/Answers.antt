@@ -54,16 +54,7 @@ pub pairs-preserved : goal.pairs-preserved
 pairs-preserved c = (search rules, below_more _ _ c.pairs.invariant.1 (legs_new _ _ (λ q h. c.loop-s.invariant.1 q (omega arith))))
 
 pub returns-then-t-e : goal.returns-then-t-e
-returns-then-t-e c =
-    let old =
-    ⊎_elim
-    (λ w. absurd (omega arith))
-    (λ w. leg_old _ _ _ _ w.3.true w.6.true
-    (sym (seen_leg c.args.tri.now c.pairs.t w.5.j w.2.s w.6.true (corners_read _ _ w.0.true w.1.ensures) (corners_read _ _ (omega (arith, w.3.true, w.0.true)) w.4.ensures))
-    ∙ sym w.7.ensures
-    ∙ w.8.true))
-    c.pairs-test.branch in
-    c.refuse.ensures ∙ sym old ∙ sym (scan_hit _ _ _ c.if-t-e.true c.pairs.invariant.1 (six old))
+returns-then-t-e c = let h = c.pairs-test in ?
 
 pub returns-else-t-e : goal.returns-else-t-e
 returns-else-t-e c = c.accept.ensures ∙ sym (scan_none _ _ (λ k h. c.pairs.invariant.1 k (omega arith)))
