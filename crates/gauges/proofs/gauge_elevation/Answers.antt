@@ -17,35 +17,32 @@ use Rattle.gauges.proofs.CallLaws.{elevation_refused, elevation_accepted}
 use Rattle.gauges.proofs.gauge_elevation.Goals as goal
 use Rattle.gauges.proofs.gauge_elevation.Goals.{After-first-a, After-look_at-look}
 
-abbrev start : (c : After-look_at-look) → tie.Start
-start c = c
-
 abbrev with : (c : After-look_at-look) → Parameters → Lent
-with c p = let a = (start c).args in lent a.state.now a.x.now a.y.now a.tri.now a.h.now a.kind.now p
+with c p = let a = c.args in lent a.state.now a.x.now a.y.now a.tri.now a.h.now a.kind.now p
 
 abbrev b : (c : After-look_at-look) → Lent
-b c = let a = (start c).args in (with c) (parameters a.dt a.tau a.k a.f)
+b c = let a = c.args in with c (parameters a.dt a.tau a.k a.f)
 
 abbrev q : (c : After-look_at-look) → Point
-q c = point_in (start c).args.kept.now (start c).args.gauge
+q c = point_in c.args.kept.now c.args.gauge
 
 seen : (c : After-look_at-look) → c.look_at-look.result ≡ sight_of (b c) (q c)
-seen c = c.look_at-look.ensures ∙ (λ i. sight_of ((with c) (c.parameters.ensures i)) (c.point_at-q.ensures i))
+seen c = c.look_at-look.ensures ∙ (λ i. sight_of (with c (c.parameters.ensures i)) (c.point_at-q.ensures i))
 
-answered : (c : After-first-a) → c.first-a.result ≡ elevation_answer ((let a = (start c).args in (with c) (parameters a.dt a.tau a.k a.f))) ((c)).args.kept.now ((c)).args.gauge
+answered : (c : After-first-a) → c.first-a.result ≡ elevation_answer ((let a = c.args in with c (parameters a.dt a.tau a.k a.f))) c.args.kept.now c.args.gauge
 unfolding elevation_answer row40
 answered c =
-    let seen : c.look_at-look.result ≡ sight_of (b c) (q c) = c.look_at-look.ensures ∙ (λ i. sight_of ((with c) (c.parameters.ensures i)) (c.point_at-q.ensures i)) in
-    let g = ((c)).args.gauge in
+    let seen : c.look_at-look.result ≡ sight_of (b c) (q c) = c.look_at-look.ensures ∙ (λ i. sight_of (with c (c.parameters.ensures i)) (c.point_at-q.ensures i)) in
+    let g = c.args.gauge in
     c.first-a.ensures
     ∙ ap (λ (a : Answer). c.look_at-look.result.answer then a) (c.first.ensures ∙ (λ i. c.number_rows.ensures i then c.tested-inside.ensures i))
-    ∙ sight_then ((let a = (start c).args in (with c) (parameters a.dt a.tau a.k a.f))) ((point_in (start c).args.kept.now (start c).args.gauge)) (seen) (λ inside. number_rows ((c)).args.kept.now g then row inside 40 g)
+    ∙ sight_then ((let a = c.args in with c (parameters a.dt a.tau a.k a.f))) ((point_in c.args.kept.now c.args.gauge)) (seen) (λ inside. number_rows c.args.kept.now g then row inside 40 g)
 
 pub returns : goal.returns
 unfolding elevation_answer of_bits
 returns c =
-    let r = (start (goal.at.returns c).After-look_at-look).args.kept.now in
-    let g = (start (goal.at.returns c).After-look_at-look).args.gauge in
+    let r = c.args.kept.now in
+    let g = c.args.gauge in
     ap (λ (a : Answer). measured a c.if-a-eq0.elevation) c.hand_back.ensures
     ∙ ⊎_elim
     (λ w. elevation_accepted (b (goal.at.returns c).After-look_at-look) r g (answered (goal.at.returns c).After-first-a) w.0.true

@@ -17,30 +17,27 @@ use Rattle.gauges.proofs.CallLaws.{locate_refused, locate_accepted}
 use Rattle.gauges.proofs.gauge_locate.Goals as goal
 use Rattle.gauges.proofs.gauge_locate.Goals.{After-first-a, After-look_at-look}
 
-abbrev start : (c : After-look_at-look) → tie.Start
-start c = c
-
 abbrev with : (c : After-look_at-look) → Parameters → Lent
-with c p = let a = (start c).args in lent a.state.now a.x.now a.y.now a.tri.now a.h.now a.kind.now p
+with c p = let a = c.args in lent a.state.now a.x.now a.y.now a.tri.now a.h.now a.kind.now p
 
 abbrev b : (c : After-look_at-look) → Lent
-b c = let a = (start c).args in (with c) (parameters a.dt a.tau a.k a.f)
+b c = let a = c.args in with c (parameters a.dt a.tau a.k a.f)
 
 abbrev q : (c : After-look_at-look) → Point
-q c = point (start c).args.px (start c).args.py
+q c = point c.args.px c.args.py
 
 -- the point, as its coordinates were handed on in 32 bits
-here : (c : After-look_at-look) → point (to_z w32 (of_z w32 (start c).args.px)) (to_z w32 (of_z w32 (start c).args.py)) ≡ (q c)
-here c = λ i. point (kept_as w32 (start c).fits.px refl i) (kept_as w32 (start c).fits.py refl i)
+here : (c : After-look_at-look) → point (to_z w32 (of_z w32 c.args.px)) (to_z w32 (of_z w32 c.args.py)) ≡ q c
+here c = λ i. point (kept_as w32 c.ranges.px refl i) (kept_as w32 c.ranges.py refl i)
 
 seen : (c : After-look_at-look) → c.look_at-look.result ≡ sight_of (b c) (q c)
-seen c = c.look_at-look.ensures ∙ (λ i. sight_of ((with c) (c.parameters.ensures i)) ((here c) i))
+seen c = c.look_at-look.ensures ∙ (λ i. sight_of (with c (c.parameters.ensures i)) (here c i))
 
-answered : (c : After-first-a) → c.first-a.result ≡ locate_answer ((let a = (start c).args in (with c) (parameters a.dt a.tau a.k a.f))) ((point (start c).args.px (start c).args.py))
+answered : (c : After-first-a) → c.first-a.result ≡ locate_answer ((let a = c.args in with c (parameters a.dt a.tau a.k a.f))) ((point c.args.px c.args.py))
 unfolding locate_answer row40
 answered c =
-    let seen : c.look_at-look.result ≡ sight_of (b c) (q c) = c.look_at-look.ensures ∙ (λ i. sight_of ((with c) (c.parameters.ensures i)) ((here c) i)) in
-    c.first-a.ensures ∙ ap (λ (a : Answer). c.look_at-look.result.answer then a) c.tested.ensures ∙ sight_then ((let a = (start c).args in (with c) (parameters a.dt a.tau a.k a.f))) ((point (start c).args.px (start c).args.py)) (seen) (λ inside. row inside 40 0)
+    let seen : c.look_at-look.result ≡ sight_of (b c) (q c) = c.look_at-look.ensures ∙ (λ i. sight_of (with c (c.parameters.ensures i)) (here c i)) in
+    c.first-a.ensures ∙ ap (λ (a : Answer). c.look_at-look.result.answer then a) c.tested.ensures ∙ sight_then ((let a = c.args in with c (parameters a.dt a.tau a.k a.f))) ((point c.args.px c.args.py)) (seen) (λ inside. row inside 40 0)
 
 pub returns : goal.returns
 unfolding locate_answer
