@@ -16,7 +16,8 @@ use Rattle.passes.specs.Settle.{Rooms}
 use Rattle.saves.specs.Save.{save_of}
 use Rattle.loads.specs.Load.{load_of}
 use Rattle.forcings.specs.Forcings.{taken_of}
-use Rattle.demands.specs.Demand1.{Accepts, Refuses, OpenSays, StepSays, StepAllSays, SaveSays, LoadSays, ForcingSays, Demand1}
+use Rattle.demands.specs.Answers.{Accepts, Refuses}
+use Rattle.demands.specs.Demand1.{OpenSays, StepSays, StepAllSays, SaveSays, LoadSays, ForcingSays, Demand1}
 use Rattle.demands.proofs.StepAllProof.{step_all_says}
 use Rattle.surge.proofs.NumberLaws.{not_13, only_13}
 use Rattle.surge.proofs.StepLaws.{early, late, step_cases}
@@ -36,7 +37,7 @@ module _ (m : Mesh) (p : Parameters) (s : Run) (f : List Float) (r : Rooms) wher
   refused_before_lem : Refuses (early m p s f r) → StepSays m p s f r (refused_before m p s f r (early m p s f r))
   refused_before_lem h = record {
     answer = sym (then_stop (early m p s f r) (late m p s f r) h);
-    next_state_lem = λ e. absurd (h e);
+    next_state = λ e. absurd (h e);
     next_clock = λ e. absurd (h e);
     same_next = λ _. refl;
     same_clock = λ _. refl;
@@ -48,7 +49,7 @@ module _ (m : Mesh) (p : Parameters) (s : Run) (f : List Float) (r : Rooms) wher
   refused_13 : Accepts (early m p s f r) → Refuses (late m p s f r) → StepSays m p s f r (refused_by13 m p s f r (late m p s f r))
   refused_13 h k = record {
     answer = sym (then_next (early m p s f r) (late m p s f r) h);
-    next_state_lem = λ e. absurd (k e);
+    next_state = λ e. absurd (k e);
     next_clock = λ e. absurd (k e);
     same_next = λ _. refl;
     same_clock = λ _. refl;
@@ -61,7 +62,7 @@ module _ (m : Mesh) (p : Parameters) (s : Run) (f : List Float) (r : Rooms) wher
   unfolding advance next_state
   went_on_lem h k = record {
     answer = sym (then_next (early m p s f r) (late m p s f r) h);
-    next_state_lem = λ _. refl;
+    next_state = λ _. refl;
     next_clock = λ _. refl;
     same_next = λ e. absurd (e k);
     same_clock = λ e. absurd (e k);
@@ -90,11 +91,11 @@ forcing_says room t expected = record { answer = refl; accepted = λ h. rw (eq-e
 -- ---- and of every outcome that meets the contract, since it is the one of the definition (Demand2)
 pub demand1 : Demand1
 demand1 = record {
-  surge·open = λ κs a x v met. subst (OpenSays _ _ _) (sym met) (open_says _ _ _);
-  surge·step = λ κs a x v met. subst (StepSays _ _ _ _ _) (sym met) (step_says _ _ _ _ _);
+  surge_open = λ κs a x v met. subst (OpenSays _ _ _) (sym met) (open_says _ _ _);
+  surge_step = λ κs a x v met. subst (StepSays _ _ _ _ _) (sym met) (step_says _ _ _ _ _);
   surge_step_all = λ κs a x v met. subst (StepAllSays _ _ _ _ _) (sym met) (step_all_says _ _ _ _ _);
-  saves·save = λ κs a x v met. subst (SaveSays _ _ _ _ _) (sym met) (save_says _ _ _ _ _);
-  loads·load = λ κs a x v met. subst (LoadSays _ _ _ _ _) (sym met) (load_says _ _ _ _ _);
+  saves_save = λ κs a x v met. subst (SaveSays _ _ _ _ _) (sym met) (save_says _ _ _ _ _);
+  loads_load = λ κs a x v met. subst (LoadSays _ _ _ _ _) (sym met) (load_says _ _ _ _ _);
   forcings_read_forcing = λ κs a x v met. subst (ForcingSays _ _ _) (sym met) (forcing_says _ _ _);
   capi_surge_open = λ κs a x v met. subst (OpenSays _ _ _) (sym met) (open_says _ _ _);
   capi_surge_step = λ κs a x v met. subst (StepSays _ _ _ _ _) (sym met) (step_says _ _ _ _ _);

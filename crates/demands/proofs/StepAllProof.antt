@@ -25,7 +25,8 @@ use Rattle.surge.specs.Lent.{Run}
 use Rattle.surge.specs.StepAll.{step_all_of, list_answer, later_answer}
 use Rattle.surge.proofs.NumberLaws.{run_plain}
 use Rattle.surge.proofs.StepAllLaws.{Passed, leaves, some_of, copies, step_all_cases}
-use Rattle.demands.specs.Demand1.{Accepts, Refuses, run_after, StepAllSays}
+use Rattle.demands.specs.Answers.{Accepts, Refuses}
+use Rattle.demands.specs.Demand1.{run_after, StepAllSays}
 
 module _ (m : Mesh) (p : Parameters) (s : Run) (l : List Float) (r : Rooms) where
   refused_rows : Refuses (list_answer m p s l r) → StepAllSays m p s l r (leaves m p s l r (list_answer m p s l r) r)
@@ -38,7 +39,7 @@ module _ (m : Mesh) (p : Parameters) (s : Run) (l : List Float) (r : Rooms) wher
     count = omega arith;
     each_accepted = λ k b. absurd (not-suc-le-zero b);
     clock = omega arith;
-    next_state_lem = λ z. absurd (z refl);
+    next_state = λ z. absurd (z refl);
     all_accepted = λ e. absurd (bad e);
     stopped = λ e. absurd (bad e);
     first_next = λ e. absurd (bad e);
@@ -57,7 +58,7 @@ module _ (m : Mesh) (p : Parameters) (s : Run) (l : List Float) (r : Rooms) wher
     count = omega arith;
     each_accepted = λ k b. absurd (not-suc-le-zero b);
     clock = omega arith;
-    next_state_lem = λ z. absurd (z refl);
+    next_state = λ z. absurd (z refl);
     all_accepted = λ _. (run_plain m p s.state rows, sym (none_listed (N m) l none));
     stopped = λ _ bad. absurd (bad rows);
     first_next = λ _ bad. absurd (bad rows);
@@ -80,7 +81,7 @@ module _ (m : Mesh) (p : Parameters) (s : Run) (l : List Float) (r : Rooms) wher
     count = h.turned.along.count;
     each_accepted = λ k b. subst (λ (f : List Float). (later_answer m p (run_after m p s l k) f).number ≡ 0) (listed k (omega (arith, b, h.turned.along.count))) (h.each k b);
     clock = h.turned.along.clock;
-    next_state_lem = λ z. sym (ap (λ (b : Bool). cond b s.state o.last.rooms.next) (ne_eqb _ _ z)) ∙ ap (λ (q : Run). q.state) h.turned.along.held;
+    next_state = λ z. sym (ap (λ (b : Bool). cond b s.state o.last.rooms.next) (ne_eqb _ _ z)) ∙ ap (λ (q : Run). q.state) h.turned.along.held;
     all_accepted = λ e. (h.plain e, h.turned.all e);
     stopped = λ _ bad.
         let below = h.turned.stopped bad in

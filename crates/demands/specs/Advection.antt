@@ -46,5 +46,5 @@ step_without m p s f rooms =
 -- with the setting off every outcome that meets the contract of a step, or of a step for C, is this one: answer, value, clock, next state and work room
 pub record OffGivesEarlier : Type 0 where
   pub formulas : EarlierFormulas
-  pub surge·step : Stepping (λ m p s f r o. p.advection ≡ false → o ≡ step_without m p s f r)
+  pub surge_step : Stepping (λ m p s f r o. p.advection ≡ false → o ≡ step_without m p s f r)
   pub capi_surge_step : SteppingC (λ m p s f r o. p.advection ≡ false → o ≡ step_without m p s f r)

@@ -24,13 +24,8 @@ use Rattle.editions.specs.Lines.{save_length, edition_of}
 use Rattle.saves.specs.Save.{saved_of, save_text, save_answer, SaveOut, wrote}
 use Rattle.loads.specs.Load.{clock_in, load_answer, state_in}
 use Rattle.forcings.specs.Forcings.{nodes_of, forcing_of, forcing_answer, Taken}
+use Rattle.demands.specs.Answers.{Accepts, Refuses}
 use Rattle.demands.specs.CallContracts.{Opening, Stepping, SteppingAll, Saving, Loading, Reading, OpeningC, SteppingC, SteppingAllC, SavingC, LoadingC, ReadingC}
-
-abbrev pub Accepts : Answer → Type 0
-Accepts a = a.number ≡ 0
-
-abbrev pub Refuses : Answer → Type 0
-Refuses a = Accepts a → ⊥
 
 -- ---- what is promised of an outcome
 
@@ -59,7 +54,7 @@ AllZero = AllZeroOf work_runs
 pub record StepSays (m : Mesh) (p : Parameters) (s : Run) (f : List Float) (r : Rooms) (o : StepOut) : Type 0 where
   pub answer : o.reply.answer ≡ step_answer m p s f r
   -- "The next state is z, z', U', V'; the clock gains one step"; of #105 the state holds Wx', Wy'
-  pub next_state_lem : Accepts o.reply.answer → let g = given_of m p s f in
+  pub next_state : Accepts o.reply.answer → let g = given_of m p s f in
       o.rooms.next ≡ runs_of (N m) ((λ i. (node g i).z) ∷ rise g ∷ U' g ∷ V' g ∷ (λ i. (new_wind g i).x) ∷ (λ i. (new_wind g i).y) ∷ [])
   pub next_clock : Accepts o.reply.answer → o.reply.clock ≡ advanced s.clock
   -- "A refusal leaves state, next state, text and clock as found."
@@ -91,7 +86,7 @@ pub record StepAllSays (m : Mesh) (p : Parameters) (s : Run) (l : List Float) (r
   pub count : o.accepted ≤ length (forcings_of (N m) l)
   pub each_accepted : (k : ℕ) → k < o.accepted → Accepts (answer_at m p s l k)
   pub clock : o.last.step ≡ s.clock.step + o.accepted
-  pub next_state_lem : (o.accepted ≡ 0 → ⊥) → o.last.rooms.next ≡ (run_after m p s l o.accepted).state
+  pub next_state : (o.accepted ≡ 0 → ⊥) → o.last.rooms.next ≡ (run_after m p s l o.accepted).state
   pub all_accepted : Accepts o.last.answer → (o.last.answer ≡ accepted) × (o.accepted ≡ length (forcings_of (N m) l))
   pub stopped : Accepts (list_answer m p s l r) → Refuses o.last.answer
       → (o.accepted < length (forcings_of (N m) l)) × (o.last.answer ≡ answer_at m p s l o.accepted)
@@ -125,11 +120,11 @@ pub record ForcingSays (room : List Float) (t : List ℕ) (expected : ℕ) (o : 
 
 -- ---- and said of every outcome
 pub record Demand1 : Type 0 where
-  pub surge·open : Opening OpenSays
-  pub surge·step : Stepping StepSays
+  pub surge_open : Opening OpenSays
+  pub surge_step : Stepping StepSays
   pub surge_step_all : SteppingAll StepAllSays
-  pub saves·save : Saving SaveSays
-  pub loads·load : Loading LoadSays
+  pub saves_save : Saving SaveSays
+  pub loads_load : Loading LoadSays
   pub forcings_read_forcing : Reading ForcingSays
   pub capi_surge_open : OpeningC OpenSays
   pub capi_surge_step : SteppingC StepSays

@@ -31,5 +31,5 @@ earlier_step m p s f rooms =
 
 -- with K = +0 or -0 every outcome that meets the contract of a step, or of a step for C, is the earlier one: answer, value, clock, next state and work room
 pub record SameAtZeroFriction : Type 0 where
-  pub surge·step : Stepping (λ m p s f r o. IsZero p.k → o ≡ earlier_step m p s f r)
+  pub surge_step : Stepping (λ m p s f r o. IsZero p.k → o ≡ earlier_step m p s f r)
   pub capi_surge_step : SteppingC (λ m p s f r o. IsZero p.k → o ≡ earlier_step m p s f r)

@@ -9,7 +9,8 @@ use Rattle.surge.specs.Step.{step_of}
 use Rattle.grids.specs.Grid.{Grid, with_kinds, grid_mesh, read_of}
 use Rattle.demands.specs.Demand3.{cold_run}
 use Rattle.demands.proofs.Demand3Proof.{demand3_at_surge, opens_cold}
-use Rattle.statements.specs.Grids.{GridSays, GridDemands, mesh_left, OnTheMesh, RunsOnMeshesRead}
+use Rattle.statements.specs.Grids.{GridSays, GridDemands}
+use Rattle.statements.specs.MeshesRead.{mesh_left, OnTheMesh, RunsOnMeshesRead}
 
 grid_says : (r : Grid) (t : List ℕ) → GridSays r t (read_of r t)
 unfolding read_of

@@ -2,3 +2,4 @@ pub mod Outcomes
 pub mod PrintingProof
 pub mod GridsProof
 pub mod GaugesProof
+pub mod Every

@@ -11,4 +11,4 @@ use Rattle.statements.specs.Printing.{PrintingHolds}
 pub printing_holds : PrintingHolds
 unfolding T T_parameters
 printing_holds =
-    record { mesh = refl; parameters = refl; by_wholes = by_wholes; either_case = alike printed printed_upper; empty = empty_printed; six_lines_lem = empty_length }
+    record { mesh = refl; parameters = refl; by_wholes = by_wholes; either_case = alike printed printed_upper; empty = empty_printed; six_lines_long = empty_length }

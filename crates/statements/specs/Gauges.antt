@@ -9,7 +9,7 @@ use Rattle.looking.specs.Lent.{Lent, lent, lent_rows}
 use Rattle.looking.specs.Looking.{is_on, triangle_at, level_at}
 use Rattle.gauges.specs.Calls.{parameters, answer, point, given, mark, Located, located, locate_answer, locate_of, add_of, Measured, measured, elevation_answer, elevation_of, all_on, update_of, Peaked, peaked, peak_of}
 use Rattle.demands.specs.CallContracts.{Keeps}
-use Rattle.demands.specs.Demand1.{Accepts, Refuses}
+use Rattle.demands.specs.Answers.{Accepts, Refuses}
 use Rattle.gauges.proofs.gauge_locate.Kinds as gauge_locate_kinds
 use Rattle.gauges.proofs.gauge_locate.Reads as gauge_locate_reads
 use Rattle.gauges.proofs.gauge_add.Kinds as gauge_add_kinds

@@ -18,4 +18,4 @@ pub record PrintingHolds : Type 0 where
   pub either_case : (s t : List ℕ) → Spells s t → printed s ≡ printed t
   -- "442, which is also what the printing program gives on empty input, in six lines", written out.
   pub empty : printed [] ≡ six_lines
-  pub six_lines_lem : length six_lines ≡ 442
+  pub six_lines_long : length six_lines ≡ 442

@@ -34,8 +34,8 @@ unfolding decimal
 decimal_fits n d = round-fits binary64 false n d
 
 -- a forcing of T: the elevation in whole metres, then Wx' and Wy' of its three nodes in 64ths
-abbrev pub forcing_of_lem : ℕ → List ℕ → List Float
-forcing_of_lem z winds = decimal z 1 ∷ map (λ (w : ℕ). decimal w 64) winds
+abbrev pub forcing_of : ℕ → List ℕ → List Float
+forcing_of z winds = decimal z 1 ∷ map (λ (w : ℕ). decimal w 64) winds
 
 -- and so is each of these
 pub winds_fit : (winds : List ℕ) (j : ℕ) → Holds (fits binary64 (get_or (map (λ (w : ℕ). decimal w 64) winds) j nan))
@@ -43,12 +43,12 @@ winds_fit [] j = nan-fits binary64
 winds_fit (w ∷ winds) zero = decimal_fits w 64
 winds_fit (w ∷ winds) (suc j) = winds_fit winds j
 
-pub forcing_fits : (z : ℕ) (winds : List ℕ) (j : ℕ) → Holds (fits binary64 (get_or (forcing_of_lem z winds) j nan))
+pub forcing_fits : (z : ℕ) (winds : List ℕ) (j : ℕ) → Holds (fits binary64 (get_or (forcing_of z winds) j nan))
 forcing_fits z winds zero = decimal_fits z 1
 forcing_fits z winds (suc j) = winds_fit winds j
 
 abbrev pub weather : ℕ → List ℕ → Weather
-weather z winds = record { forcing = forcing_of_lem z winds; values = λ j _. forcing_fits z winds j }
+weather z winds = record { forcing = forcing_of z winds; values = λ j _. forcing_fits z winds j }
 
 -- a wind of 1/64 to the east at every node, one to the north at node 1 alone, none, and an elevation beyond 30
 abbrev pub east : Weather

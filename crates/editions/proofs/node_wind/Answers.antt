@@ -15,7 +15,7 @@ of_head e held values = rw e
 
 pub returns-in-Two : goal.returns-in-Two
 unfolding wind_in
-returns-in-Two c = rw (c.float_of-in-Two.ensures, c.float_of.ensures, c.enum_told-in-Two-1.given.1)
+returns-in-Two c = rw (c.float_of-in-Two.ensures, c.float_of.ensures, c.in-Two.is)
 
 pub returns-in-One : goal.returns-in-One
-returns-in-One c = of_head c.enum_told.given.1 _ _
+returns-in-One c = of_head c.in-One.is _ _

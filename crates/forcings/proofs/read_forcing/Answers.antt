@@ -62,8 +62,3 @@ returns c =
 pub fill_10-requires : goal.fill_10-requires
 fill_10-requires c = long (goal.at.fill_10-requires c).Else-shape-ne0
 
-pub shape_of-room-then-starts : goal.shape_of-room-then-starts
-shape_of-room-then-starts c = c.room.given
-
-pub shape_of-room : goal.shape_of-room
-shape_of-room c = c.room-2-1.given

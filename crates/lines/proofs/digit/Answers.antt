@@ -4,7 +4,9 @@ use Rattle.frames.specs.Bytes.{digit}
 use Rattle.lines.proofs.digit.Goals as goal
 
 pub returns-then-n-lt10 : goal.returns-then-n-lt10
+unfolding digit
 returns-then-n-lt10 c = simp (lt-ltb _ _ c.if-n-lt10.true)
 
 pub returns-else-n-lt10 : goal.returns-else-n-lt10
+unfolding digit
 returns-else-n-lt10 c = simp (le-ltb _ _ c.if-n-lt10.false)

@@ -1,6 +1,5 @@
 use Prim.Native.Nat.{◌≤◌, ◌-◌}
 use mathlib.Core.Path.{◌≡◌, refl, sym, ◌∙◌}
-use mathlib.Core.Logic.{⊎_elim}
 use native.Mathlib.Numerals.{add-one}
 use native.Mathlib.Omega.{arith}
 use borrow.Author.Rules.{rules}
@@ -9,7 +8,7 @@ use lib.Seq.{paste, paste-zero, paste-suc, take_all, length-take-le}
 use Rattle.lines.specs.Building.{longest, written, laid}
 use Rattle.lines.proofs.BuildLaws.{put_fits, put_not}
 use Rattle.lines.proofs.put.Goals as goal
-use Rattle.lines.proofs.put.Goals.{Joined-len-lt-LONGEST}
+use Rattle.lines.proofs.put.Goals.{Joined-len-lt-LONGEST, then-len-lt-LONGEST, else-len-lt-LONGEST}
 
 -- n bytes of the line are written, all of them where its length is past its longest
 some : (c : Joined-len-lt-LONGEST)
@@ -19,8 +18,10 @@ unfolding written
 some c =
     let l = c.args.line in
     let z : length l.bytes ≡ longest = search rules in
-    ⊎_elim (λ w. (rw w.1, z, omega arith))
-    (λ w. (rw w.1 (take_all l.len l.bytes (omega arith) ∙ sym (take_all longest l.bytes (omega arith))), z, omega arith)) c.if-len-lt-LONGEST.branch
+    elim c.if-len-lt-LONGEST.branch [
+      then-len-lt-LONGEST w ↦ (rw w.n-is, z, omega arith)
+    | else-len-lt-LONGEST w ↦ (rw w.n-is (take_all l.len l.bytes (omega arith) ∙ sym (take_all longest l.bytes (omega arith))), z, omega arith)
+    ]
 
 long : (c : Joined-len-lt-LONGEST) → length (take c.if-len-lt-LONGEST.n c.args.line.bytes) ≡ c.if-len-lt-LONGEST.n
 long c = length-take-le _ _ (omega (arith, some c))

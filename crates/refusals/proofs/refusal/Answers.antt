@@ -6,11 +6,11 @@ use Rattle.refusals.proofs.WordLaws.{is_numeral, refusal_joined}
 use Rattle.refusals.proofs.refusal.Goals as goal
 use Rattle.refusals.proofs.refusal.Goals.{After-decimal-p, After-decimal-r}
 
-number : (c : After-decimal-r) → take c.decimal-r.result c.decimal-r.new.1.0 ≡ numeral c.args.answer.number
-number c = is_numeral c.decimal-r.new.1.0 (search rules) c.decimal-r.ensures.1.0 c.decimal-r.ensures.1.1
+number : (c : After-decimal-r) → take c.decimal-r.result c.decimal-r.new.out ≡ numeral c.args.answer.number
+number c = is_numeral c.decimal-r.new.out (search rules) c.decimal-r.ensures.len c.decimal-r.ensures.digits
 
-place : (c : After-decimal-p) → take c.decimal-p.result c.decimal-p.new.1.0 ≡ numeral c.args.answer.place
-place c = is_numeral c.decimal-p.new.1.0 (search rules) c.decimal-p.ensures.1.0 c.decimal-p.ensures.1.1
+place : (c : After-decimal-p) → take c.decimal-p.result c.decimal-p.new.out ≡ numeral c.args.answer.place
+place c = is_numeral c.decimal-p.new.out (search rules) c.decimal-p.ensures.len c.decimal-p.ensures.digits
 
 pub returns : goal.returns
 unfolding words

@@ -29,9 +29,11 @@ returns c =
     rw (le-leb _ _ h, c.loop-k.invariant.2, all, take-length a.part.now)
 
 pub returns-then-n-gt-ROOM : goal.returns-then-n-gt-ROOM
+unfolding joined
 returns-then-n-gt-ROOM c = let a = c.args in let h : room_of_words < a.text.len + length a.part.now = omega arith in rw (lt-leb _ _ h)
 
 pub returns-then-n-at : goal.returns-then-n-at
+unfolding joined
 returns-then-n-at c = let a = c.args in let h : room_of_words < a.text.len + length a.part.now = omega arith in rw (lt-leb _ _ h)
 
 pub loop-k-init : goal.loop-k-init

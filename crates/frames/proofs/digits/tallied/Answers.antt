@@ -4,7 +4,7 @@ use Rattle.frames.specs.Bytes.{bytes, all_digits, sum}
 use Rattle.frames.specs.Reading.{tallied}
 use Rattle.frames.proofs.TallyLaws.{part, rest, rest_digits, part_high, part_low, sum_next, digits_next, sum_adds, sum_none, digits_end}
 use Rattle.frames.proofs.digits.tallied.Goals as goal
-use Rattle.frames.proofs.digits.tallied.Goals.{Joined-side-eq0}
+use Rattle.frames.proofs.digits.tallied.Goals.{Joined-side-eq0, then-side-eq0, else-side-eq0}
 
 pub loop-c-init : goal.loop-c-init
 unfolding rest rest_digits
@@ -14,8 +14,10 @@ loop-c-init c = (omega arith, refl, omega arith, ap (λ x. x % 256) (omega arith
 added : (j : Joined-side-eq0) → j.if-side-eq0.part ≡ part (j.loop-c.c % 2) (get_or j.args.text.now j.loop-c.c 0)
 added j =
     let side = j.loop-c.invariant.1 in
-    ⊎_elim (λ t. t.1 ∙ rw j.worth-digit.ensures (sym (part_high (j.loop-c.c % 2) _ (omega (arith, side, t.0.true)))))
-    (λ t. t.1 ∙ rw j.worth-digit.ensures (sym (part_low (j.loop-c.c % 2) _ (omega (arith, side, t.0.left))))) j.if-side-eq0.branch
+    elim j.if-side-eq0.branch [
+      then-side-eq0 t ↦ t.part-is ∙ rw j.worth-digit.ensures (sym (part_high (j.loop-c.c % 2) _ (omega (arith, side, t.if-side-eq0.true))))
+    | else-side-eq0 t ↦ t.part-is ∙ rw j.worth-digit.ensures (sym (part_low (j.loop-c.c % 2) _ (omega (arith, side, t.if-side-eq0.false))))
+    ]
 
 pub loop-c-preserved : goal.loop-c-preserved
 loop-c-preserved c =
@@ -25,7 +27,7 @@ loop-c-preserved c =
       omega arith,
       omega (arith, c.wrapping_add_u8-side.ensures, c.loop-c.invariant.1),
       omega (arith, c.wrapping_add_u8-sum.ensures),
-      rw (c.wrapping_add_u8-sum.ensures, sum_adds, added (goal.at.loop-c-preserved c).Joined-side-eq0, ← sum_next s k n) c.loop-c.invariant.3,
+      rw (c.wrapping_add_u8-sum.ensures.value, sum_adds, added (goal.at.loop-c-preserved c).Joined-side-eq0, ← sum_next s k n) c.loop-c.invariant.3,
       rw (and_assoc, c.worth-digit.ensures, ← digits_next s k n) c.loop-c.invariant.4,
     )
 

@@ -1,16 +1,15 @@
-use Rattle.std.proofs.Common.{◌≡◌, ◌-◌, ◌≤◌, cond, ◌&&◌, leb, ◌∙◌, ⊎_elim, arith, leb-true}
+use Rattle.std.proofs.Common.{◌≡◌, ◌-◌, ◌≤◌, cond, ◌&&◌, leb, ◌∙◌, arith, leb-true}
 use Rattle.rows.proofs.ScanLaws.{both_left}
 use Rattle.frames.specs.Bytes.{worth}
 use Rattle.frames.proofs.digits.worth.Goals as goal
-use Rattle.frames.proofs.digits.worth.Goals.{Joined-d, Joined-d-2}
-
-lower : (c : Joined-d) → let d = c.args.d in c.if-d.lower ≡ cond (leb 97 d && leb d 102) (d - 87) 16
-lower c = ⊎_elim (λ w. w.1 ∙ rw w.0.true) (λ w. w.1 ∙ rw w.0.left) c.if-d.branch
+use Rattle.frames.proofs.digits.worth.Goals.{Joined-d-2, then-d, else-d, then-d-2, else-d-2}
 
 letter : (c : Joined-d-2) → let d = c.args.d in c.if-d-2.letter ≡ cond (leb 65 d && leb d 70) (d - 55) (cond (leb 97 d && leb d 102) (d - 87) 16)
 letter c =
-    let lower : let d = c.args.d in c.if-d.lower ≡ cond (leb 97 d && leb d 102) (d - 87) 16 = ⊎_elim (λ w. w.1 ∙ rw w.0.true) (λ w. w.1 ∙ rw w.0.left) c.if-d.branch in
-    ⊎_elim (λ w. w.1 ∙ rw w.0.true) (λ w. w.1 ∙ rw w.0.left (lower)) c.if-d-2.branch
+    let low : let d = c.args.d in c.if-d.lower ≡ cond (leb 97 d && leb d 102) (d - 87) 16 =
+        elim c.if-d.branch [ then-d w ↦ w.lower-is ∙ rw w.if-d.true | else-d w ↦ w.lower-is ∙ rw w.if-d.false ]
+    in
+    elim c.if-d-2.branch [ then-d-2 w ↦ w.letter-is ∙ rw w.if-d-2.true | else-d-2 w ↦ w.letter-is ∙ rw w.if-d-2.false low ]
 
 pub overflow_sub-lower : goal.overflow_sub-lower
 overflow_sub-lower c = let h : 97 ≤ c.args.d = leb-true _ _ (both_left _ _ c.if-d.true) in omega arith
@@ -22,7 +21,9 @@ pub overflow_sub-result : goal.overflow_sub-result
 overflow_sub-result c = leb-true _ _ (both_left _ _ c.if-d-3.true)
 
 pub returns-then-d-3 : goal.returns-then-d-3
+unfolding worth
 returns-then-d-3 c = rw c.if-d-3.true
 
 pub returns-else-d-3 : goal.returns-else-d-3
+unfolding worth
 returns-else-d-3 c = rw c.if-d-3.false (letter (goal.at.returns-else-d-3 c).Joined-d-2)

@@ -14,6 +14,7 @@ loop-k-preserved c =
     (omega arith, number_grows _ _ _ c.loop-k.invariant.1 w.1, rw (c.loop-k.invariant.2, w.0) (sym (number_more a.bytes.now a.at c.loop-k.k (omega arith))))
 
 pub loop-k-init : goal.loop-k-init
+unfolding number
 loop-k-init c = (omega arith, omega arith, refl)
 
 pub overflow_mul-v : goal.overflow_mul-v

@@ -5,18 +5,16 @@ use Rattle.frames.specs.Bytes.{bytes, number}
 use Rattle.frames.specs.Reading.{value}
 use Rattle.frames.proofs.ByteLaws.{bytes_length, number_room, number_grows, number_more, number_ends}
 use Rattle.frames.proofs.reading.value.Goals as goal
-use Rattle.frames.proofs.reading.value.Goals.{In-loop-k, Joined-width-rest}
+use Rattle.frames.proofs.reading.value.Goals.{In-loop-k, Joined-width-rest, then-width-rest, else-width-rest}
 
 -- the bytes that are read are at most the field's, and stand within the line
 within : (c : Joined-width-rest)
     → let a = c.args in
     (c.if-width-rest.count ≤ a.width) × (a.at + c.if-width-rest.count ≤ length a.line.now / 2) × ((c.if-width-rest.count ≡ a.width) ⊎ (length a.line.now / 2 ≤ a.at + c.if-width-rest.count))
-within c = ⊎_elim (λ w. (omega arith, omega arith, inl (omega arith))) (λ w. (omega arith, omega arith, inr (omega arith))) c.if-width-rest.branch
+within c = elim c.if-width-rest.branch [ then-width-rest w ↦ (omega arith, omega arith, inl (omega arith)) | else-width-rest w ↦ (omega arith, omega arith, inr (omega arith)) ]
 
 small : (c : In-loop-k) → c.loop-k.v < 256 ^ 7
-small c =
-    let within : let a = c.args in (c.if-width-rest.count ≤ a.width) × (a.at + c.if-width-rest.count ≤ length a.line.now / 2) × ((c.if-width-rest.count ≡ a.width) ⊎ (length a.line.now / 2 ≤ a.at + c.if-width-rest.count)) = ⊎_elim (λ w. (omega arith, omega arith, inl (omega arith))) (λ w. (omega arith, omega arith, inr (omega arith))) c.if-width-rest.branch in
-    number_room _ _ c.loop-k.invariant.1 (omega (arith, within))
+small c = number_room _ _ c.loop-k.invariant.1 (omega arith)
 
 pub returns-then-bytes-at : goal.returns-then-bytes-at
 unfolding value number
@@ -42,9 +40,11 @@ returns c =
     (number_ends (bytes a.line.now) a.at c.loop-k.k a.width (omega arith) (⊎_elim (λ e. inl (omega arith)) (λ e. inr (omega arith)) w.2))
 
 pub returns-then-width-gt8 : goal.returns-then-width-gt8
+unfolding value
 returns-then-width-gt8 c = rw (lt-leb _ _ c.if-width-gt8.true)
 
 pub loop-k-init : goal.loop-k-init
+unfolding number
 loop-k-init c = (omega arith, omega arith, refl)
 
 pub overflow_mul-v : goal.overflow_mul-v
