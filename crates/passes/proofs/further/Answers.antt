@@ -1,19 +1,16 @@
-use Prim.Native.Nat.{ℕ, ◌+◌, ◌-◌, ◌*◌, ◌≤◌}
+use Prim.Native.Nat.{ℕ, ◌+◌, ◌-◌}
 use mathlib.Core.Path.{◌≡◌, refl, sym, ap, ◌∙◌}
 use mathlib.Core.Bool.{cond}
 use mathlib.Core.List.{List}
 use native.Mathlib.Omega.{arith}
-use borrow.Author.Rules.{rules}
 use lib.Dec.{eqb}
 use lib.ListN.{length}
 use lib.Ieee.{Float}
 use Rattle.mesh.specs.Lent.{Mesh, mesh}
-use Rattle.bounds.specs.State.{state_runs}
 use Rattle.bounds.specs.Forcing.{forcing_length, forcing_at}
 use Rattle.bounds.proofs.ListLaws.{forcing_long}
-use Rattle.passes.specs.Settle.{work_runs}
 use Rattle.passes.specs.Equations.{next_state}
-use Rattle.passes.specs.Private.{of_forcing, later_rows, onward_of, onward}
+use Rattle.passes.specs.Private.{of_forcing, later_rows, onward_of}
 use Rattle.passes.proofs.TurnLaws.{listed, Part, part, lent_part, onward_none, onward_stop, onward_more, counts}
 use Rattle.passes.proofs.further.Goals as goal
 use Rattle.passes.proofs.further.Goals.{After-go_on-answer, At-loop-j, In-loop-j, Start}
@@ -97,4 +94,3 @@ overflow_add-step-in-loop-j c = record { fits = omega (arith, (loop-j-preserved 
 
 pub overflow_sub-result-2 : goal.overflow_sub-result-2
 overflow_sub-result-2 c = omega (arith, c.loop-j.invariant.0)
-

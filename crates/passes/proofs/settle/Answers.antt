@@ -75,4 +75,3 @@ slice_bounds-work_out-start c = omega (arith, long (goal.at.slice_bounds-work_ou
 
 pub slice_bounds-work_out-end : goal.slice_bounds-work_out-end
 slice_bounds-work_out-end c = omega (arith, long (goal.at.slice_bounds-work_out-end c).Else-first-ne0)
-

@@ -1,10 +1,9 @@
-use Prim.Native.Nat.{ℕ, ◌+◌, ◌-◌, ◌*◌, ◌/◌, ◌<◌, ◌≤◌}
+use Prim.Native.Nat.{ℕ, ◌-◌, ◌*◌, ◌/◌, ◌<◌, ◌≤◌}
 use mathlib.Core.Path.{◌≡◌, sym, ap, ◌∙◌}
 use mathlib.Core.Bool.{not, true}
 use mathlib.Core.List.{List, ◌++◌}
 use native.Mathlib.Nat.{zero-mul}
 use native.Mathlib.Omega.{arith}
-use borrow.Author.Rules.{rules}
 use borrow.Author.Tests.{eqb-false, not-true}
 use lib.Dec.{eqb}
 use lib.ListN.{length, take, drop}
@@ -14,7 +13,7 @@ use Rattle.rows.specs.declared.Answer.{Answer}
 use Rattle.lists.specs.Table.{table, zeros}
 use Rattle.rows.proofs.ScanLaws.{same_number, row_passed}
 use Rattle.limits.specs.Limits.{row11}
-use Rattle.mesh.specs.Lent.{Mesh, mesh, N}
+use Rattle.mesh.specs.Lent.{Mesh, mesh}
 use Rattle.bounds.specs.Forcing.{forcing_length, forcing_at, list_rows}
 use Rattle.bounds.proofs.ForcingLaws.{AcceptedForced, accepted_forced}
 use Rattle.bounds.proofs.ListLaws.{forcing_within}

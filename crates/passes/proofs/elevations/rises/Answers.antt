@@ -1,9 +1,8 @@
-use Prim.Native.Nat.{ℕ, ◌-◌, ◌*◌, ◌≤◌, ◌<◌}
+use Prim.Native.Nat.{ℕ, ◌*◌, ◌<◌}
 use native.Mathlib.Omega.{arith}
 use mathlib.Core.Path.{◌≡◌, refl, sym, ap, ◌∙◌}
 use native.Mathlib.Nat.{le_antisymm}
-use borrow.Author.Count.{falls}
-use borrow.Author.Rules.{scaled_Fits, below_length}
+use borrow.Author.Rules.{below_length}
 use lib.Dec.{eqb}
 use lib.ListN.{length}
 use Rattle.rows.specs.declared.Answer.{Answer}
@@ -16,7 +15,7 @@ use Rattle.passes.specs.Equations.{Given, given, count, node, rise}
 use Rattle.outcomes.specs.Outcomes.{rise_row}
 use Rattle.passes.specs.Settle.{work_runs}
 use Rattle.passes.specs.Private.{Fits, rise_room}
-use Rattle.passes.proofs.PassLaws.{Place, place, turn, rises_to, its_rise, rise_more, rise_none, rise_all}
+use Rattle.passes.proofs.PassLaws.{Place, place, rises_to, its_rise, rise_more, rise_none, rise_all}
 use Rattle.passes.proofs.elevations.rises.Goals as goal
 use Rattle.passes.proofs.elevations.rises.Goals.{After-loop-i, At-loop-i, In-loop-i, Start}
 
@@ -115,4 +114,3 @@ bounds-work-n-in-loop-i c = (at (goal.at.bounds-work-n-in-loop-i c).In-loop-i).w
 
 pub refused_rise-requires : goal.refused_rise-requires
 refused_rise-requires c = ((fits (goal.at.refused_rise-requires c).At-loop-i).shape.sized.h, long (goal.at.refused_rise-requires c).At-loop-i)
-

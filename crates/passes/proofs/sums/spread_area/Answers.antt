@@ -5,7 +5,6 @@ use lib.ListN.{length, get_or}
 use Rattle.lists.specs.Gather.{whole}
 use Rattle.lists.specs.Private.{spread}
 use Rattle.lists.proofs.GatherLaws.{length_added, added_le}
-use borrow.Author.Rules.{rules}
 use Rattle.passes.proofs.sums.spread_area.Goals as goal
 use Rattle.passes.proofs.sums.spread_area.Goals.{After-add_area, After-add_area-2}
 

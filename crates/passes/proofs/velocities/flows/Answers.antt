@@ -1,8 +1,7 @@
-use Prim.Native.Nat.{ℕ, ◌-◌, ◌*◌, ◌≤◌}
+use Prim.Native.Nat.{ℕ, ◌*◌}
 use native.Mathlib.Omega.{arith}
 use mathlib.Core.Path.{◌≡◌, refl, sym, ap, ◌∙◌}
 use native.Mathlib.Nat.{le_antisymm}
-use borrow.Author.Count.{falls}
 use lib.Dec.{T, ltb, eqb}
 use lib.ListN.{length, length-set}
 use Rattle.rows.specs.declared.Answer.{Answer}
@@ -15,7 +14,7 @@ use Rattle.passes.specs.Equations.{Given, given, count, flow_at}
 use Rattle.outcomes.specs.Outcomes.{flow_row}
 use Rattle.passes.specs.Settle.{work_runs}
 use Rattle.passes.specs.Private.{Fits, flow_room}
-use Rattle.passes.proofs.PassLaws.{Place, place, turn, flows_to, its_flow, flow_more, flow_none, flow_all}
+use Rattle.passes.proofs.PassLaws.{Place, place, flows_to, its_flow, flow_more, flow_none, flow_all}
 use Rattle.passes.proofs.velocities.flows.Goals as goal
 use Rattle.passes.proofs.velocities.flows.Goals.{After-loop-i, At-loop-i, In-loop-i, Start}
 
@@ -158,7 +157,6 @@ bounds-work-n-in-loop-i-6 c = simp length-set (at (goal.at.bounds-work-n-in-loop
 
 pub refused_flow-requires : goal.refused_flow-requires
 refused_flow-requires c = long (goal.at.refused_flow-requires c).At-loop-i
-
 
 pub flow_at-v-requires-clause-kind_len : goal.flow_at-v-requires-clause-kind_len
 flow_at-v-requires-clause-kind_len c =

@@ -1,24 +1,20 @@
-use Prim.Native.Nat.{◌-◌, ◌*◌, ◌≤◌}
+use Prim.Native.Nat.{◌*◌}
 use native.Mathlib.Omega.{arith}
-use mathlib.Core.Path.{◌≡◌, refl, sym, ap, ◌∙◌}
+use mathlib.Core.Path.{◌≡◌, ap, ◌∙◌}
 use native.Mathlib.Nat.{le_antisymm}
-use borrow.Author.Count.{falls}
 use lib.Dec.{lit<}
 use lib.ListN.{length}
-use mir.Syntax.{w64}
-use mir.Facts.{Fits-below}
 use lib.Ieee.{Float, nan}
 use Rattle.lists.specs.Gather.{Three, gathered}
 use Rattle.lists.specs.Private.{Below, past, spread}
 use Rattle.lists.proofs.RunLaws.{runs_length}
-use Rattle.quantities.specs.declared.Parameters.{Parameters}
 use Rattle.geometry.specs.Geometry.{nodes_of}
 use Rattle.mesh.specs.Lent.{mesh, E}
 use Rattle.mesh.proofs.SideLaws.{corners_read}
 use Rattle.passes.specs.Equations.{Given, given, corners_of, floating}
 use Rattle.passes.specs.Settle.{work_runs}
-use Rattle.passes.specs.Private.{Fits, rise_room}
-use Rattle.passes.proofs.PassLaws.{Turned, turn, run_fits, slopes_to, in_run_lem, inside, its_near, its_floats, slope_more}
+use Rattle.passes.specs.Private.{Fits}
+use Rattle.passes.proofs.PassLaws.{run_fits, slopes_to, in_run_lem, inside, its_near, its_floats, slope_more}
 use Rattle.passes.proofs.velocities.slopes.Goals as goal
 use Rattle.passes.proofs.velocities.slopes.Goals.{After-corners_at-c, At-loop-t, In-loop-t, Start}
 
@@ -61,8 +57,8 @@ loop-t-preserved c =
     let its = corner (goal.at.loop-t-preserved c).After-corners_at-c in (
       omega arith,
       c.spread-in-loop-t.ensures
-      ∙ (λ i. spread floating nan (past (2 * n) at) (c.alike-in-loop-t.ensures i) ((c.spread.ensures ∙ ap (λ (a : Three Float). spread floating nan (past (1 * n) at) a c.loop-t.work) c.alike.ensures) i))
-      ∙ slope_more g z _ h its c.loop-t.invariant.1 (its_floats g z _ h its c.places_at.ensures c.sides_of.ensures c.floats_of-s.ensures) c.slope_of-v.ensures,
+          ∙ (λ i. spread floating nan (past (2 * n) at) (c.alike-in-loop-t.ensures i) ((c.spread.ensures ∙ ap (λ (a : Three Float). spread floating nan (past (1 * n) at) a c.loop-t.work) c.alike.ensures) i))
+          ∙ slope_more g z _ h its c.loop-t.invariant.1 (its_floats g z _ h its c.places_at.ensures c.sides_of.ensures c.floats_of-s.ensures) c.slope_of-v.ensures,
     )
 
 pub returns : goal.returns
