@@ -13,6 +13,3 @@ invariant-loop-j l = let steps = onward (mesh l.x l.y l.tri l.h l.kind) l.p l.fr
     ((l.j ≤ l.count) × (l.step ≡ l.from + l.j) × (l.step ≤ 4294967295))
     × ((length l.next ≡ state_runs * length l.x) × (length l.work ≡ work_runs * length l.x) × (length l.sums ≡ length l.x))
     × (steps (l.count - l.j) l.j l.next ≡ steps (l.count - 1) 1 l.initial.next)
-
-abbrev pub decreases-loop-j : goal.decreases-loop-j
-decreases-loop-j l = l.count - l.j

@@ -1,4 +1,4 @@
-use Prim.Native.Nat.{ℕ, ◌-◌, ◌≤◌}
+use Prim.Native.Nat.{ℕ, ◌≤◌}
 use mathlib.Core.Path.{◌≡◌}
 use lib.Dec.{eqb}
 use Rattle.rows.specs.declared.Answer.{Answer}
@@ -16,6 +16,3 @@ row_at g i = flow_row (flow_at g i) i
 abbrev pub invariant-loop-i : goal.invariant-loop-i
 invariant-loop-i l = let g = given (mesh l.x l.y l.tri l.h l.kind) l.p l.state l.elevation l.winds in
     (l.i ≤ l.n) × ((l.work ≡ flows_to g l.i) × (l.all ≡ eqb (scan (row_at g) l.i).number 0))
-
-abbrev pub decreases-loop-i : goal.decreases-loop-i
-decreases-loop-i l = l.n - l.i
