@@ -57,10 +57,8 @@ fn line_of(
     state: &[f64],
     clock: Clock,
 ) -> Line
-    ghost s: { Saved }
-    requires clock_value { record { n = n; e = e; sum = sum; p = p; state = state.now; clock = clock } ≡ s }
-    requires n_bound { (n ≤ 4096) × (length state.now ≡ state_runs * n) × (j ≤ n + 2) }
-    ensures { result ≡ holding (text (line_of edition2 s.n (values2 s) j)) }
+    requires { (n ≤ 4096) × (length state.now ≡ state_runs * n) × (j ≤ n + 2) }
+    ensures { let s : Saved = record { n = n; e = e; sum = sum; p = p; state = state.now; clock = clock } in result ≡ holding (text (line_of edition2 s.n (values2 s) j)) }
 {
     if j == 0 {
         return head_line(n, e, clock);
@@ -84,10 +82,8 @@ pub(crate) fn write(
     state: &[f64],
     clock: Clock,
 )
-    ghost s: { Saved }
-    requires clock_value { record { n = n; e = e; sum = sum; p = p; state = state.now; clock = clock } ≡ s }
-    requires n_bound { (n ≤ 4096) × (length state.now ≡ state_runs * n) × (save_length n ≤ length text.old) }
-    ensures { text.new ≡ save_text s ++ drop (save_length n) text.old }
+    requires { (n ≤ 4096) × (length state.now ≡ state_runs * n) × (save_length n ≤ length text.old) }
+    ensures { let s : Saved = record { n = n; e = e; sum = sum; p = p; state = state.now; clock = clock } in text.new ≡ save_text s ++ drop (save_length n) text.old }
 {
     let count = n + 3;
     let mut at = 0;

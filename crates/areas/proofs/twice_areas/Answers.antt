@@ -1,7 +1,6 @@
 use Prim.Native.Nat.{◌-◌, ◌/◌, ◌≤◌}
 use mathlib.Core.Path.{◌≡◌, sym, ap, ◌∙◌}
 use mathlib.Core.Bool.{cond}
-use mathlib.Core.Logic.{⊎_elim}
 use native.Mathlib.Omega.{arith}
 use borrow.Author.Rules.{rules}
 use borrow.Author.Tests.{le-leb, lt-leb}
@@ -10,14 +9,18 @@ use lib.ListN.{length}
 use Rattle.areas.specs.Areas.{total, counted, counted_sum}
 use Rattle.areas.proofs.AreaLaws.{total_none, total_more, counted_small, counts_small}
 use Rattle.areas.proofs.twice_areas.Goals as goal
-use Rattle.areas.proofs.twice_areas.Goals.{Joined-all-le8192}
+use Rattle.areas.proofs.twice_areas.Goals.{Joined-all-le8192, then-all-le8192, else-all-le8192}
 
 -- e is the number of triangles, and no more than a mesh has
 most : (c : Joined-all-le8192) → (c.if-all-le8192.e ≤ length c.args.tri.now / 3) × (c.if-all-le8192.e ≤ 8192)
-most c = ⊎_elim (λ w. (omega arith, omega arith)) (λ w. (omega arith, omega arith)) c.if-all-le8192.branch
+most c = elim c.if-all-le8192.branch [ then-all-le8192 w ↦ (omega arith, omega arith) | else-all-le8192 w ↦ (omega arith, omega arith) ]
 
 fewer : (c : Joined-all-le8192) → let all = length c.args.tri.now / 3 in c.if-all-le8192.e ≡ cond (leb all 8192) all 8192
-fewer c = ⊎_elim (λ w. rw (le-leb _ _ w.0.true) w.1) (λ w. rw (lt-leb _ _ w.0.left) w.1) c.if-all-le8192.branch
+fewer c =
+    elim c.if-all-le8192.branch
+    [ then-all-le8192 w ↦ rw (le-leb _ _ w.if-all-le8192.true) w.e-is
+    | else-all-le8192 w ↦ rw (lt-leb _ _ w.if-all-le8192.false) w.e-is
+    ]
 
 pub loop-t-init : goal.loop-t-init
 loop-t-init c = (search rules, sym (total_none _))

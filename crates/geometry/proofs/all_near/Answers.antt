@@ -1,4 +1,4 @@
-use Rattle.std.proofs.Common.{◌≡◌, ◌^◌, ◌<◌, Bool, ◌&&◌, ℤ, refl, ap, ◌∙◌, w64, to_z, of_z, rules}
+use Rattle.std.proofs.Common.{◌≡◌, ◌^◌, ◌<◌, Bool, ◌&&◌, ℤ, refl, ap, ◌∙◌, w64, to_z, of_z, arith}
 use lib.Signed.{mag}
 use Rattle.geometry.specs.Geometry.{near, all_near}
 use Rattle.geometry.proofs.SizeLaws.{kept}
@@ -12,9 +12,9 @@ pub returns : goal.returns
 unfolding all_near
 returns c =
     let s = c.args.s in
-    λ i. side s.a1 c.struct_told.given.0.1 c.is_near.ensures i
-    && side s.a2 c.struct_told-2-1.given.1.0.1 c.is_near-2.ensures i
-    && side s.a3 c.struct_told-3-1.given.1.1.0.1 c.is_near-3.ensures i
-    && side s.b1 c.struct_told-4-1.given.1.1.1.0.1 c.is_near-4.ensures i
-    && side s.b2 c.struct_told-5-1.given.1.1.1.1.0.1 c.is_near-5.ensures i
-    && side s.b3 c.struct_told-6-1.given.1.1.1.1.1.0.1 c.is_near-6.ensures i
+    λ i. side s.a1 (omega arith) c.is_near.ensures i
+    && side s.a2 (omega arith) c.is_near-2.ensures i
+    && side s.a3 (omega arith) c.is_near-3.ensures i
+    && side s.b1 (omega arith) c.is_near-4.ensures i
+    && side s.b2 (omega arith) c.is_near-5.ensures i
+    && side s.b3 (omega arith) c.is_near-6.ensures i

@@ -1,7 +1,6 @@
 use Prim.Native.Nat.{ℕ, ◌-◌, ◌≤◌, ◌<◌}
 use mathlib.Core.Path.{◌≡◌, sym, ap, ◌∙◌}
 use mathlib.Core.Bool.{false}
-use mathlib.Core.Logic.{⊎_elim}
 use native.Mathlib.Omega.{arith}
 use borrow.Author.Count.{below_none, below_more}
 use borrow.Author.Rules.{rules}
@@ -14,7 +13,7 @@ use Rattle.legs.specs.Legs.{leg_seen, row6}
 use Rattle.mesh.proofs.SideLaws.{corners_read}
 use Rattle.legs.proofs.LegLaws.{corners_small, seen_leg, legs_new, leg_old}
 use Rattle.legs.proofs.leg_rows.Goals as goal
-use Rattle.legs.proofs.leg_rows.Goals.{At-loop-j, At-loop-s}
+use Rattle.legs.proofs.leg_rows.Goals.{At-loop-j, At-loop-s, else-pairs-test, then-pairs-test+then-loop-s-test+then-loop-j-test+then-leg_seen}
 
 six : {a : Answer} {t : ℕ} → a ≡ refused 6 t → a.number ≡ 0 → ⊥
 six e z = absurd (omega (arith, ap (λ (b : Answer). b.number) e, z))
@@ -55,14 +54,15 @@ pairs-preserved c = (search rules, below_more _ _ c.pairs.invariant.1 (legs_new 
 
 pub returns-then-t-e : goal.returns-then-t-e
 returns-then-t-e c =
-    let old =
-    ⊎_elim
-    (λ w. absurd (omega arith))
-    (λ w. leg_old _ _ _ _ w.3.true w.6.true
-    (sym (seen_leg c.args.tri.now c.pairs.t w.5.j w.2.s w.6.true (corners_read _ _ w.0.true w.1.ensures) (corners_read _ _ (omega (arith, w.3.true, w.0.true)) w.4.ensures))
-    ∙ sym w.7.ensures
-    ∙ w.8.true))
-    c.pairs-test.branch in
+    let old : row6 c.args.tri.now c.pairs.t ≡ refused 6 c.pairs.t =
+    elim c.pairs-test.branch
+    [ else-pairs-test w ↦ absurd (omega arith)
+    | then-pairs-test+then-loop-s-test+then-loop-j-test+then-leg_seen w ↦
+        leg_old _ _ _ _ w.loop-s-test.true w.loop-j-test.true
+        (sym (seen_leg c.args.tri.now c.pairs.t w.loop-j.j w.loop-s.s w.loop-j-test.true (corners_read _ _ w.pairs-test.true w.corners_at-its.ensures) (corners_read _ _ (omega (arith, w.loop-s-test.true, w.pairs-test.true)) w.corners_at-c.ensures))
+        ∙ sym w.leg_seen.ensures
+        ∙ w.if-leg_seen.true)
+    ] in
     c.refuse.ensures ∙ sym old ∙ sym (scan_hit _ _ _ c.if-t-e.true c.pairs.invariant.1 (six old))
 
 pub returns-else-t-e : goal.returns-else-t-e

@@ -12,4 +12,4 @@ unfolding mesh_rows
 returns c = goes _ (same_number c.shape_rows-shape.ensures c.if-shape-ne0.false) c.node_rows.ensures
 
 pub node_rows-requires : goal.node_rows-requires
-node_rows-requires c = for_nodes _ _ (same_number c.shape_rows-shape.ensures c.if-shape-ne0.false)
+node_rows-requires c = let of = for_nodes _ _ (same_number c.shape_rows-shape.ensures c.if-shape-ne0.false) in record { n_bound = of.0; by_index = of.1 }

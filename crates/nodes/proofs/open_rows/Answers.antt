@@ -14,4 +14,4 @@ returns c =
     goes _ (same_number c.shape_rows-shape.ensures c.if-shape-ne0.false) (c.first.ensures ∙ rw (c.leg_rows.ensures, c.node_rows-nodes.ensures))
 
 pub node_rows-nodes-requires : goal.node_rows-nodes-requires
-node_rows-nodes-requires c = for_nodes _ _ (same_number c.shape_rows-shape.ensures c.if-shape-ne0.false)
+node_rows-nodes-requires c = let of = for_nodes _ _ (same_number c.shape_rows-shape.ensures c.if-shape-ne0.false) in record { n_bound = of.0; by_index = of.1 }

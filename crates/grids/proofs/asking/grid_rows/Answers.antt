@@ -7,75 +7,67 @@ use Rattle.grids.specs.Private.{after_lines}
 use Rattle.grids.proofs.TextLaws.{asked}
 use Rattle.grids.proofs.GridLaws.{title_row_lem, second_line, past_two, long_h, long_tri, node_lines, triangle_lines}
 use Rattle.grids.proofs.asking.grid_rows.Goals as goal
-use Rattle.grids.proofs.asking.grid_rows.Goals.{After-first-asked, After-node_rows-nodes}
+use Rattle.grids.proofs.asking.grid_rows.Goals.{After-first-asked}
 
-abbrev counts : (f : After-first-asked) → tie.After-counts-row
-counts f = f
+-- the two lines that stand first, of a text that the rooms x, y, h and tri are lent for
+abbrev second : (x y h tri : ℕ) (t : List ℕ) → Answer
+second x y h tri t = count_line_rows (lengths x y h tri) (count_line t)
 
-abbrev start : (f : After-first-asked) → tie.Start
-start f = (counts f)
+abbrev t : After-first-asked → List ℕ
+t f = f.args.text.now
 
-abbrev t : (f : After-first-asked) → List ℕ
-t f = (start f).args.text.now
+abbrev its_second : After-first-asked → Answer
+its_second f = second f.args.x f.args.y f.args.h f.args.tri (t f)
 
-abbrev second : (f : After-first-asked) → Answer
-second f = count_line_rows (lengths (start f).args.x (start f).args.y (start f).args.h (start f).args.tri) (count_line (t f))
+asked_second : (f : After-first-asked) → f.counts_row-counts.result.answer ≡ its_second f
+asked_second f = f.counts_row-counts.ensures.answer_value ∙ ap (count_line_rows (lengths _ _ _ _)) (second_line (t f) f.past_line.ensures)
 
-asked_second : (f : After-first-asked) → (counts f).counts_row.result.answer ≡ (second f)
-asked_second f = (counts f).counts_row.ensures.0 ∙ ap (count_line_rows (lengths _ _ _ _)) (second_line (t f) (counts f).past-line.ensures)
+head : (f : After-first-asked) → f.first-asked.result ≡ (title_row (t f) then its_second f)
+head f = f.first-asked.ensures ∙ (λ i. (f.tested-title.ensures ∙ title_row_lem (t f)) i then asked_second f i)
 
-head : (f : After-first-asked) → f.first-asked.result ≡ (title_row (t f) then (second f))
-head f = f.first-asked.ensures ∙ (λ i. ((counts f).tested.ensures ∙ title_row_lem (t f)) i then (asked_second f) i)
-module _ (e : f.first-asked.result.number ≡ 0) where
-  accepts : (second f).number ≡ 0
-  accepts = then_rest (title_row (t f)) (second f) (same_number (head f) e)
-  past : drop (counts f).counts_row.result.next (t f) ≡ after_lines 2 (t f)
-  past = past_two (t f) (counts f).past-line.ensures ((counts f).counts_row.ensures.1 (same_number (sym (asked_second f)) accepts))
-  nodes : (start f).args.h ≡ count_n (t f)
-  nodes = long_h _ _ _ _ (t f) accepts
-  triangles : (start f).args.tri / 3 ≡ count_e (t f)
-  triangles = omega (arith, long_tri _ _ _ _ (t f) accepts)
+accepts : (f : After-first-asked) → f.first-asked.result.number ≡ 0 → (its_second f).number ≡ 0
+accepts f e = then_rest (title_row (t f)) (its_second f) (same_number (head f) e)
+
+past : (f : After-first-asked) → f.first-asked.result.number ≡ 0 → drop f.counts_row-counts.result.next (t f) ≡ after_lines 2 (t f)
+past f e = past_two (t f) f.past_line.ensures (f.counts_row-counts.ensures.text_value (same_number (sym (asked_second f)) (accepts f e)))
+
+nodes : (f : After-first-asked) → f.first-asked.result.number ≡ 0 → f.args.h ≡ count_n (t f)
+nodes f e = long_h _ _ _ _ (t f) (accepts f e)
+
+triangles : (f : After-first-asked) → f.first-asked.result.number ≡ 0 → f.args.tri / 3 ≡ count_e (t f)
+triangles f e = omega (arith, long_tri _ _ _ _ (t f) (accepts f e))
 
 pub returns-then-asked-ne0 : goal.returns-then-asked-ne0
 unfolding grid_rows
 returns-then-asked-ne0 c = stops _ (head (goal.at.returns-then-asked-ne0 c).After-first-asked) c.if-asked-ne0.true ∙ then_assoc _ _ _
 
-abbrev before : (n : After-node_rows-nodes) → tie.After-first
-before n = n
-
-accepted_head : (n : After-node_rows-nodes) → (before n).first.result.number ≡ 0
-accepted_head n = n.if-asked-ne0.left
-
-asked_nodes : (n : After-node_rows-nodes) → n.node_rows-nodes.result.answer ≡ scan (λ i. node_line_rows i (node_line (t (before n)) i)) (count_n (t (before n)))
-asked_nodes n =
-    n.node_rows-nodes.ensures.0
-    ∙ ap (λ (u : List ℕ). scan (asked node_line_rows u) (start (before n)).args.h) (past (before n) (accepted_head n))
-    ∙ node_lines (t (before n)) (start (before n)).args.h (nodes (before n) (accepted_head n)) node_line_rows
+asked_nodes : (f : After-first-asked) → f.first-asked.result.number ≡ 0 → {a : Answer}
+    → a ≡ scan (asked node_line_rows (drop f.counts_row-counts.result.next (t f))) f.args.h → a ≡ scan (λ i. node_line_rows i (node_line (t f) i)) (count_n (t f))
+asked_nodes f e is =
+    is ∙ ap (λ (u : List ℕ). scan (asked node_line_rows u) f.args.h) (past f e) ∙ node_lines (t f) f.args.h (nodes f e) node_line_rows
 
 pub returns-then-answer-ne0 : goal.returns-then-answer-ne0
 unfolding grid_rows
 returns-then-answer-ne0 c =
-    let f = before (goal.at.returns-then-answer-ne0 c).After-node_rows-nodes in
-    goes (title_row (t (goal.at.returns-then-answer-ne0 f).After-first-asked) then second (goal.at.returns-then-answer-ne0 f).After-first-asked) (same_number (head (goal.at.returns-then-answer-ne0 f).After-first-asked) (accepted_head (goal.at.returns-then-answer-ne0 c).After-node_rows-nodes)) (stops _ (asked_nodes (goal.at.returns-then-answer-ne0 c).After-node_rows-nodes) c.if-answer-ne0.true) ∙ then_assoc _ _ _
+    let f = (goal.at.returns-then-answer-ne0 c).After-first-asked in
+    let e = c.if-asked-ne0.false in
+    goes (title_row (t f) then its_second f) (same_number (head f) e) (stops _ (asked_nodes f e c.node_rows-nodes.ensures.answer_value) c.if-answer-ne0.true)
+    ∙ then_assoc _ _ _
 
 pub returns : goal.returns
 unfolding grid_rows
 returns c =
-    let f = before (goal.at.returns c).After-node_rows-nodes in
-    let a = (start (goal.at.returns f).After-first-asked).args in
-    let left = c.node_rows-nodes.ensures.1 c.if-answer-ne0.false ∙ ap (after_lines a.h) (past f (accepted_head (goal.at.returns c).After-node_rows-nodes)) in
+    let f = (goal.at.returns c).After-first-asked in
+    let e = c.if-asked-ne0.false in
+    let a = c.args in
+    let left = c.node_rows-nodes.ensures.text_value c.if-answer-ne0.false ∙ ap (after_lines a.h) (past f e) in
     let asked-triangles =
     c.triangle_rows.ensures
     ∙ ap (λ (u : List ℕ). scan (asked (triangle_line_rows a.h) u) (a.tri / 3)) left
-    ∙ triangle_lines (t (goal.at.returns f).After-first-asked) a.h (nodes f (accepted_head (goal.at.returns c).After-node_rows-nodes)) triangle_line_rows (a.tri / 3) (triangles f (accepted_head (goal.at.returns c).After-node_rows-nodes)) in
-    goes (title_row (t (goal.at.returns f).After-first-asked) then second (goal.at.returns f).After-first-asked) (same_number (head (goal.at.returns f).After-first-asked) (accepted_head (goal.at.returns c).After-node_rows-nodes)) (goes _ (same_number (asked_nodes (goal.at.returns c).After-node_rows-nodes) c.if-answer-ne0.false) asked-triangles)
+    ∙ triangle_lines (t f) a.h (nodes f e) triangle_line_rows (a.tri / 3) (triangles f e) in
+    goes (title_row (t f) then its_second f) (same_number (head f) e)
+    (goes _ (same_number (asked_nodes f e c.node_rows-nodes.ensures.answer_value) c.if-answer-ne0.false) asked-triangles)
     ∙ then_assoc _ _ _
 
-pub counts_row-counts-requires : goal.counts_row-counts-requires
-counts_row-counts-requires c = c.requires
-
-pub node_rows-nodes-requires : goal.node_rows-nodes-requires
-node_rows-nodes-requires c = (start (goal.at.node_rows-nodes-requires c).After-first-asked).requires.0
-
 pub triangle_rows-requires : goal.triangle_rows-requires
-triangle_rows-requires c = let few = (start (goal.at.triangle_rows-requires c).After-first-asked).requires in (few.0, omega (arith, few.1))
+triangle_rows-requires c = (c.requires.0, omega (arith, c.requires.1))

@@ -18,4 +18,4 @@ returns c =
       c.tested-order.ensures,
       c.tested-formed.ensures,
     ) in
-    (tested ∙ node_row i seen few, λ e. line_next seen.seen _ _ (same_number tested e))
+    record { answer_value = tested ∙ node_row i seen few; text_value = λ e. line_next seen.seen _ _ (same_number tested e) }

@@ -7,7 +7,5 @@ use Rattle.grids.proofs.asking.node_rows.Given as goal
 
 -- i lines were asked and accepted
 abbrev pub invariant-loop-i : goal.invariant-loop-i
-invariant-loop-i l =     (l.i ≤ l.n) × ((drop l.at l.text ≡ after_lines l.i (drop l.from l.text)) × ((k : ℕ) → k < l.i → (asked node_line_rows (drop l.from l.text) k).number ≡ 0))
-
-abbrev pub decreases-loop-i : goal.decreases-loop-i
-decreases-loop-i l = l.n - l.i
+invariant-loop-i l =
+    (l.i ≤ l.n) × ((drop l.at l.text ≡ after_lines l.i (drop l.from l.text)) × ((k : ℕ) → k < l.i → (asked node_line_rows (drop l.from l.text) k).number ≡ 0))

@@ -19,4 +19,4 @@ returns c =
       c.is_corner-2.ensures,
       c.is_corner.ensures,
     ) in
-    (tested ∙ triangle_row a.n a.k seen few, λ e. line_next seen.seen _ _ (same_number tested e))
+    record { answer_value = tested ∙ triangle_row a.n a.k seen few; text_value = λ e. line_next seen.seen _ _ (same_number tested e) }

@@ -13,7 +13,7 @@ pub returns-then-answer-ne0 : goal.returns-then-answer-ne0
 returns-then-answer-ne0 c =
     let a = c.args in
     let t = drop a.from a.text.now in
-    ask_hit (triangle_line_rows a.n) t c.loop-k.k c.loop-k.invariant.1.0 c.triangle_row-asked.ensures.0 a.e c.loop-k-test.true c.loop-k.invariant.1.1
+    ask_hit (triangle_line_rows a.n) t c.loop-k.k c.loop-k.invariant.1.0 c.triangle_row-asked.ensures.answer_value a.e c.loop-k-test.true c.loop-k.invariant.1.1
     c.if-answer-ne0.true
 
 pub loop-k-preserved : goal.loop-k-preserved
@@ -22,8 +22,8 @@ loop-k-preserved c =
     let t = drop a.from a.text.now in (
       search rules,
       (
-        c.triangle_row-asked.ensures.1 c.if-answer-ne0.false ∙ ap (after_first 10) c.loop-k.invariant.1.0 ∙ sym (after_more c.loop-k.k t),
-        below_more _ _ c.loop-k.invariant.1.1 (ask_more (triangle_line_rows a.n) t c.loop-k.k c.loop-k.invariant.1.0 c.triangle_row-asked.ensures.0 c.if-answer-ne0.false),
+        c.triangle_row-asked.ensures.text_value c.if-answer-ne0.false ∙ ap (after_first 10) c.loop-k.invariant.1.0 ∙ sym (after_more c.loop-k.k t),
+        below_more _ _ c.loop-k.invariant.1.1 (ask_more (triangle_line_rows a.n) t c.loop-k.k c.loop-k.invariant.1.0 c.triangle_row-asked.ensures.answer_value c.if-answer-ne0.false),
       ),
     )
 

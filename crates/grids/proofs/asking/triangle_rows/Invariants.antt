@@ -7,7 +7,5 @@ use Rattle.grids.proofs.asking.triangle_rows.Given as goal
 
 -- i lines were asked and accepted
 abbrev pub invariant-loop-k : goal.invariant-loop-k
-invariant-loop-k l =     (l.k ≤ l.e) × ((drop l.at l.text ≡ after_lines l.k (drop l.from l.text)) × ((k : ℕ) → k < l.k → (asked (triangle_line_rows l.n) (drop l.from l.text) k).number ≡ 0))
-
-abbrev pub decreases-loop-k : goal.decreases-loop-k
-decreases-loop-k l = l.e - l.k
+invariant-loop-k l =
+    (l.k ≤ l.e) × ((drop l.at l.text ≡ after_lines l.k (drop l.from l.text)) × ((k : ℕ) → k < l.k → (asked (triangle_line_rows l.n) (drop l.from l.text) k).number ≡ 0))

@@ -9,43 +9,49 @@ use Rattle.grids.proofs.filling.fill.Goals.{After-fill_nodes-next, After-past_li
 
 -- the lines of the nodes stand after two lines, those of the triangles after theirs
 
-abbrev start : (p : After-past_line-third) → tie.Start
-start p = p
+abbrev t : After-past_line-third → List ℕ
+t p = p.args.text.now
 
-abbrev t : (p : After-past_line-third) → List ℕ
-t p = (start p).args.text.now
-
-abbrev lent : (p : After-past_line-third) → Grid
-lent p = let a = (start p).args in grid a.x.now a.y.now a.h.now a.tri.now
+abbrev lent : After-past_line-third → Grid
+lent p = let a = p.args in grid a.x.now a.y.now a.h.now a.tri.now
 
 two : (p : After-past_line-third) → drop p.past_line-third.result (t p) ≡ after_lines 2 (t p)
 two p = past_two (t p) p.past_line-second.ensures p.past_line-third.ensures
 
 pub fill_nodes-next-requires : goal.fill_nodes-next-requires
 fill_nodes-next-requires c =
-    let ok = (start (goal.at.fill_nodes-next-requires c).After-past_line-third).requires in (
-      (same_y (lent (goal.at.fill_nodes-next-requires c).After-past_line-third) (t (goal.at.fill_nodes-next-requires c).After-past_line-third) ok, same_h (lent (goal.at.fill_nodes-next-requires c).After-past_line-third) (t (goal.at.fill_nodes-next-requires c).After-past_line-third) ok),
-      λ i h. ap (λ (u : List ℕ). (node_line_rows i (line_of u i)).number) (two (goal.at.fill_nodes-next-requires c).After-past_line-third) ∙ node_ok (lent (goal.at.fill_nodes-next-requires c).After-past_line-third) (t (goal.at.fill_nodes-next-requires c).After-past_line-third) ok i h,
-    )
+    let p = (goal.at.fill_nodes-next-requires c).After-past_line-third in
+    let ok = p.requires in
+    record {
+      y_len = (same_y (lent p) (t p) ok, same_h (lent p) (t p) ok);
+      by_index = λ i h. ap (λ (u : List ℕ). (node_line_rows i (line_of u i)).number) (two p) ∙ node_ok (lent p) (t p) ok i h;
+    }
 
-abbrev p : (f : After-fill_nodes-next) → tie.After-past-line2
-p f = f
+abbrev texts : After-fill_nodes-next → List ℕ
+texts f = f.args.text.now
 
-filled : (f : After-fill_nodes-next) → NodesFilled (length (lent (p f)).x) (after_lines 2 (t (p f))) f.fill_nodes-next.last.0 f.fill_nodes-next.last.1.0 f.fill_nodes-next.last.1.1.0
-    (drop f.fill_nodes-next.result (t (p f)))
-filled f = rw (two (p f)) at f.fill_nodes-next.ensures
+abbrev rooms : After-fill_nodes-next → Grid
+rooms f = let a = f.args in grid a.x.now a.y.now a.h.now a.tri.now
 
-rest : (f : After-fill_nodes-next) → drop f.fill_nodes-next.result (t (p f)) ≡ after_lines (length (lent (p f)).x) (after_lines 2 (t (p f)))
+filled : (f : After-fill_nodes-next) → NodesFilled (length (rooms f).x) (after_lines 2 (texts f)) f.fill_nodes-next.new.x f.fill_nodes-next.new.y f.fill_nodes-next.new.h
+    (drop f.fill_nodes-next.result (texts f))
+filled f = rw (past_two (texts f) f.past_line-second.ensures f.past_line-third.ensures) at f.fill_nodes-next.ensures
+
+rest : (f : After-fill_nodes-next) → drop f.fill_nodes-next.result (texts f) ≡ after_lines (length (rooms f).x) (after_lines 2 (texts f))
 rest f = (filled f).after
 
 pub fill_triangles-requires : goal.fill_triangles-requires
 fill_triangles-requires c =
-    let ok = (start (p (goal.at.fill_triangles-requires c).After-fill_nodes-next)).requires in (
-      λ k h. ap (λ (u : List ℕ). (triangle_line_rows (length (lent (p (goal.at.fill_triangles-requires c).After-fill_nodes-next)).x) k (line_of u k)).number) (rest (goal.at.fill_triangles-requires c).After-fill_nodes-next) ∙ triangle_ok (lent (p (goal.at.fill_triangles-requires c).After-fill_nodes-next)) (t (p (goal.at.fill_triangles-requires c).After-fill_nodes-next)) ok k h,
-      by_three (lent (p (goal.at.fill_triangles-requires c).After-fill_nodes-next)) (t (p (goal.at.fill_triangles-requires c).After-fill_nodes-next)) ok,
-    )
+    let f = (goal.at.fill_triangles-requires c).After-fill_nodes-next in
+    let ok = f.requires in
+    record {
+      by_index =
+          λ k h. ap (λ (u : List ℕ). (triangle_line_rows (length (rooms f).x) k (line_of u k)).number) (rest f) ∙ triangle_ok (rooms f) (texts f) ok k h;
+      tri_len = by_three (rooms f) (texts f) ok;
+    }
 
 pub returns : goal.returns
 returns c =
-    let corners = c.fill_triangles.ensures ∙ ap (λ (u : List ℕ). table (length (lent (p (goal.at.returns c).After-fill_nodes-next)).tri) (corner_in (line_of u))) (rest (goal.at.returns c).After-fill_nodes-next) in
-    filled_grid (lent (p (goal.at.returns c).After-fill_nodes-next)) (t (p (goal.at.returns c).After-fill_nodes-next)) (start (p (goal.at.returns c).After-fill_nodes-next)).requires (filled (goal.at.returns c).After-fill_nodes-next) corners
+    let f = (goal.at.returns c).After-fill_nodes-next in
+    let corners = c.fill_triangles.ensures ∙ ap (λ (u : List ℕ). table (length (rooms f).tri) (corner_in (line_of u))) (rest f) in
+    filled_grid (rooms f) (texts f) f.requires (filled f) corners

@@ -11,8 +11,6 @@ use Rattle.grids.proofs.filling.fill_triangles.Given as goal
 
 -- k triangles are filled
 abbrev pub invariant-loop-k : goal.invariant-loop-k
-invariant-loop-k l =     let u = drop l.from l.text in
+invariant-loop-k l =
+    let u = drop l.from l.text in
     (l.k ≤ l.e) × ((drop l.at l.text ≡ after_lines l.k u) × (l.tri ≡ up_to (3 * l.k) (corner_in (line_of u)) l.initial.tri))
-
-abbrev pub decreases-loop-k : goal.decreases-loop-k
-decreases-loop-k l = l.e - l.k

@@ -1,5 +1,4 @@
 use Rattle.std.proofs.Common.{◌≡◌, ℕ, ◌-◌, ◌≤◌, true, length, get_or, refl, arith, rules}
-use borrow.Author.Tests.{not-true, not-false}
 use Rattle.grids.specs.Numbers.{is_digit}
 use Rattle.grids.specs.Private.{most}
 use Rattle.grids.proofs.LeftLaws.{digit_range, digit_none, digit_end, front_there, front_end, Going, going_starts, going_more, going_ends}
@@ -9,7 +8,7 @@ use Rattle.grids.proofs.scanning.digits_rest.Goals.{At-loop-at}
 pub returns-then-not-byte : goal.returns-then-not-byte
 returns-then-not-byte c =
     let there = c.loop-at-test.true in
-    going_ends c.loop-at.invariant.1.1 (digit_none _ _ there (not-true _ c.if-not-byte.true)) (front_there _ _ there) c.loop-at.invariant.1.0
+    going_ends c.loop-at.invariant.1.1 (digit_none _ _ there c.if-not-byte.true) (front_there _ _ there) c.loop-at.invariant.1.0
 
 -- the byte read is a digit
 abbrev Here : At-loop-at → ℕ
@@ -17,13 +16,13 @@ Here l = get_or l.args.text.now l.loop-at.at 0
 
 pub more-value-requires : goal.more-value-requires
 more-value-requires c =
-    let range = digit_range (Here (goal.at.more-value-requires c).At-loop-at) (not-false _ c.if-not-byte.false) in
+    let range = digit_range (Here (goal.at.more-value-requires c).At-loop-at) c.if-not-byte.false in
     (c.loop-at.invariant.0, range.0, range.1)
 
 pub loop-at-preserved : goal.loop-at-preserved
 loop-at-preserved c =
     let there = c.loop-at-test.true in
-    let digit : is_digit (Here (goal.at.loop-at-preserved c).At-loop-at) ≡ true = not-false _ c.if-not-byte.false in
+    let digit : is_digit (Here (goal.at.loop-at-preserved c).At-loop-at) ≡ true = c.if-not-byte.false in
     (omega (arith, c.more-value.ensures), (omega (arith, there), going_more c.loop-at.invariant.1.1 there digit c.more-value.ensures refl))
 
 pub returns : goal.returns

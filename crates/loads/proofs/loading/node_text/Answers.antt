@@ -14,7 +14,7 @@ returns-in-One c =
     let a = c.args in
     c.part.ensures
     ∙ node_line_lem edition1 a.n a.text.now a.i c.requires.0
-    ∙ ap (λ (d : Edition). line_in (lines_of d) a.n a.text.now (node_line (lines_of d) a.i)) (sym c.enum_told.given.1)
+    ∙ ap (λ (d : Edition). line_in (lines_of d) a.n a.text.now (node_line (lines_of d) a.i)) (sym c.in-One.is)
 
 pub returns-in-Two : goal.returns-in-Two
 unfolding start_of
@@ -22,4 +22,4 @@ returns-in-Two c =
     let a = c.args in
     c.part-in-Two.ensures
     ∙ node_line_lem edition2 a.n a.text.now a.i c.requires.0
-    ∙ ap (λ (d : Edition). line_in (lines_of d) a.n a.text.now (node_line (lines_of d) a.i)) (sym c.enum_told-in-Two-1.given.1)
+    ∙ ap (λ (d : Edition). line_in (lines_of d) a.n a.text.now (node_line (lines_of d) a.i)) (sym c.in-Two.is)

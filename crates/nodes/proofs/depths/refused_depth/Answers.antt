@@ -19,11 +19,11 @@ test l k = let a = l.args in is_node (get_or a.h.now k nan) (get_or a.kind.now k
 pub returns-then-not-is_node : goal.returns-then-not-is_node
 unfolding row8
 returns-then-not-is_node c =
-    c.refuse.ensures ∙ row_hit (test (goal.at.returns-then-not-is_node c).At-loop-i) 7 (λ i. i) c.loop-i-test.true c.loop-i.invariant.1 (sym c.is_node.ensures ∙ not-true _ c.if-not-is_node.true)
+    c.refuse.ensures ∙ row_hit (test (goal.at.returns-then-not-is_node c).At-loop-i) 7 (λ i. i) c.loop-i-test.true c.loop-i.invariant.1 (sym c.is_node.ensures ∙ c.if-not-is_node.true)
 
 pub loop-i-preserved : goal.loop-i-preserved
 loop-i-preserved c =
-    (search rules, below_more _ _ c.loop-i.invariant.1 (sym c.is_node.ensures ∙ not-false _ c.if-not-is_node.false))
+    (search rules, below_more _ _ c.loop-i.invariant.1 (sym c.is_node.ensures ∙ c.if-not-is_node.false))
 
 pub returns : goal.returns
 unfolding row8

@@ -26,10 +26,10 @@ mark t =
 pub returns-then-not-seen-i : goal.returns-then-not-seen-i
 unfolding row7
 returns-then-not-seen-i c =
-    c.refuse.ensures ∙ row_hit (named (goal.at.returns-then-not-seen-i c).At-loop-i) 6 (λ i. i) c.loop-i-test.true c.loop-i.invariant.1 (mark (goal.at.returns-then-not-seen-i c).In-loop-i ∙ not-true _ c.if-not-seen-i.true)
+    c.refuse.ensures ∙ row_hit (named (goal.at.returns-then-not-seen-i c).At-loop-i) 6 (λ i. i) c.loop-i-test.true c.loop-i.invariant.1 (mark (goal.at.returns-then-not-seen-i c).In-loop-i ∙ c.if-not-seen-i.true)
 
 pub loop-i-preserved : goal.loop-i-preserved
-loop-i-preserved c = (search rules, below_more _ _ c.loop-i.invariant.1 (mark (goal.at.loop-i-preserved c).In-loop-i ∙ not-false _ c.if-not-seen-i.false))
+loop-i-preserved c = (search rules, below_more _ _ c.loop-i.invariant.1 (mark (goal.at.loop-i-preserved c).In-loop-i ∙ c.if-not-seen-i.false))
 
 pub returns : goal.returns
 unfolding row7

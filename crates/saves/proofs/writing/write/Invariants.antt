@@ -11,7 +11,7 @@ use Rattle.saves.proofs.WriteLaws.{lines_start, reached, so_far, so_far_long, pu
 use Rattle.saves.proofs.writing.write.Given as goal
 
 abbrev pub invariant-loop-j : goal.invariant-loop-j
-invariant-loop-j l =     let s : Saved = record { l.n = l.n; l.e = l.e; l.sum = l.sum; l.p = l.p; l.state = l.state; l.clock = l.clock } in
+invariant-loop-j l =     let s : Saved = record { n = l.n; e = l.e; sum = l.sum; p = l.p; state = l.state; clock = l.clock } in
     (l.j ≤ l.count) × (l.at ≡ reached s l.j) × (l.text ≡ so_far s l.initial.text l.j)
 
 abbrev pub decreases-loop-j : goal.decreases-loop-j
