@@ -39,13 +39,16 @@ number c = sym (ap (λ (o : Settled). o.answer.number) (answered c))
 
 pub returns-then-answer-ne0 : goal.returns-then-answer-ne0
 returns-then-answer-ne0 c =
-    ap (with_clock c.args.clock) (answered (goal.at.returns-then-answer-ne0 c).After-settle-answer) ∙ (made (net (goal.at.returns-then-answer-ne0 c).Start) c.args.p (held (goal.at.returns-then-answer-ne0 c).Start) c.args.f.now (lent (goal.at.returns-then-answer-ne0 c).Start)).refused (λ z. c.if-answer-ne0.true (sym (number (goal.at.returns-then-answer-ne0 c).After-settle-answer) ∙ z))
+    let w = goal.at.returns-then-answer-ne0 c in
+    ap (with_clock c.args.clock) (answered w.After-settle-answer) ∙ (made (net w.Start) c.args.p (held w.Start) c.args.f.now (lent w.Start)).refused (λ z. c.if-answer-ne0.true (sym (number w.After-settle-answer) ∙ z))
 
 pub advanced-requires : goal.advanced-requires
 advanced-requires c =
-    let ok = ((made (net (goal.at.advanced-requires c).Start) c.args.p (held (goal.at.advanced-requires c).Start) c.args.f.now (lent (goal.at.advanced-requires c).Start)).accepted (number (goal.at.advanced-requires c).After-settle-answer ∙ c.if-answer-ne0.false)).0 in
-    omega (arith, not_last (net (goal.at.advanced-requires c).Start) c.args.p (held (goal.at.advanced-requires c).Start) c.args.f.now (lent (goal.at.advanced-requires c).Start) ok)
+    let w = goal.at.advanced-requires c in
+    let ok = ((made (net w.Start) c.args.p (held w.Start) c.args.f.now (lent w.Start)).accepted (number w.After-settle-answer ∙ c.if-answer-ne0.false)).0 in
+    omega (arith, not_last (net w.Start) c.args.p (held w.Start) c.args.f.now (lent w.Start) ok)
 
 pub returns : goal.returns
 returns c =
-    (λ i. with_clock (c.advanced.ensures i) (answered (goal.at.returns c).After-settle-answer i)) ∙ ((made (net (goal.at.returns c).Start) c.args.p (held (goal.at.returns c).Start) c.args.f.now (lent (goal.at.returns c).Start)).accepted (number (goal.at.returns c).After-settle-answer ∙ c.if-answer-ne0.false)).1
+    let w = goal.at.returns c in
+    (λ i. with_clock (c.advanced.ensures i) (answered w.After-settle-answer i)) ∙ ((made (net w.Start) c.args.p (held w.Start) c.args.f.now (lent w.Start)).accepted (number w.After-settle-answer ∙ c.if-answer-ne0.false)).1
