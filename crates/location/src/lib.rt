@@ -50,10 +50,8 @@ fn at_points(
     kind: &[u8],
     state: &[f64],
 ) -> Sightings
-    ghost m: { Mesh }
-    requires kind_value { mesh x.now y.now tri.now h.now kind.now ≡ m }
-    requires shaped { Shaped m × (length state.now ≡ state_runs * N m) }
-    ensures { result ≡ seen answer m state.now ps }
+    requires { let m : Mesh = mesh x.now y.now tri.now h.now kind.now in Shaped m × (length state.now ≡ state_runs * N m) }
+    ensures { let m : Mesh = mesh x.now y.now tri.now h.now kind.now in result ≡ seen answer m state.now ps }
 {
     let east = ps.x;
     let north = ps.y;

@@ -54,10 +54,8 @@ fn decoded(
     kind: &[u8],
     p: Parameters,
 ) -> Sightings
-    ghost b: { Lent }
-    requires p_value { lent state.now x.now y.now tri.now h.now kind.now p ≡ b }
-    requires sizes { Sizes b (length east.old) (length north.old) (length nodes.old) (length depths.old) (length values.old) }
-    ensures { result ≡ survey_of asked (mesh_in b) b.p (state_in b) ps }
+    requires { let b : Lent = lent state.now x.now y.now tri.now h.now kind.now p in Sizes b (length east.old) (length north.old) (length nodes.old) (length depths.old) (length values.old) }
+    ensures { let b : Lent = lent state.now x.now y.now tri.now h.now kind.now p in result ≡ survey_of asked (mesh_in b) b.p (state_in b) ps }
 {
     crossing::ints_into(east, x);
     crossing::ints_into(north, y);
@@ -94,7 +92,7 @@ fn at_full_size(
     kind: &[u8],
     p: Parameters,
 ) -> Sightings
-    requires sizes { let b : Lent = lent state.now x.now y.now tri.now h.now kind.now p in Sizes b 4096 4096 24576 4096 24576 }
+    requires { let b : Lent = lent state.now x.now y.now tri.now h.now kind.now p in Sizes b 4096 4096 24576 4096 24576 }
     ensures { let b : Lent = lent state.now x.now y.now tri.now h.now kind.now p in result ≡ survey_of asked (mesh_in b) b.p (state_in b) ps }
 {
     let mut east: [i32; 4096] = [0; 4096];

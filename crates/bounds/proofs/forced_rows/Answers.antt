@@ -9,7 +9,7 @@ use Rattle.bounds.specs.Forcing.{row1_forcing, forced_rows}
 use Rattle.bounds.proofs.StateLaws.{accepted_run}
 use Rattle.bounds.proofs.ForcingLaws.{long_forcing}
 use Rattle.bounds.proofs.forced_rows.Goals as goal
-use Rattle.bounds.proofs.forced_rows.Goals.{After-first-first, Else-first-ne0}
+use Rattle.bounds.proofs.forced_rows.Goals.{After-first-first}
 
 abbrev net : After-first-first → Mesh
 net c = let a = c.args in mesh a.x.now a.y.now a.tri.now a.h.now a.kind.now
@@ -25,14 +25,6 @@ answered c =
     let before = c.first.ensures ∙ ap (λ (b : Answer). a.asked then b) long in
     c.first-first.ensures ∙ ap (λ (b : Answer). b then a.also) (c.run_rows-run.ensures ∙ ap (λ (b : Answer). run_rows b (net c) a.p a.state.now) before)
 
-passed : (c : Else-first-ne0) → ((let a = c.args in run_rows (a.asked then row1_forcing (net c) a.f.now) (net c) a.p a.state.now then a.also)).number ≡ 0
-passed c =
-    let answered : c.first-first.result ≡ asked c = let a = c.args in
-    let long = c.tested-long.ensures ∙ ap (λ (b : Bool). row b 1 0) c.is_forcing.ensures in
-    let before = c.first.ensures ∙ ap (λ (b : Answer). a.asked then b) long in
-    c.first-first.ensures ∙ ap (λ (b : Answer). b then a.also) (c.run_rows-run.ensures ∙ ap (λ (b : Answer). run_rows b (net c) a.p a.state.now) before) in
-    same_number (answered) c.if-first-ne0.false
-
 pub returns-then-first-ne0 : goal.returns-then-first-ne0
 unfolding forced_rows
 returns-then-first-ne0 c = stops _ (answered (goal.at.returns-then-first-ne0 c).After-first-first) c.if-first-ne0.true ∙ then_assoc _ _ _
@@ -40,9 +32,10 @@ returns-then-first-ne0 c = stops _ (answered (goal.at.returns-then-first-ne0 c).
 pub forcing_rows-requires : goal.forcing_rows-requires
 forcing_rows-requires c =
     let a = c.args in
-    let run = accepted_run _ (net (goal.at.forcing_rows-requires c).After-first-first) a.p a.state.now (then_first _ _ (passed (goal.at.forcing_rows-requires c).Else-first-ne0)) in
-    long_forcing (net (goal.at.forcing_rows-requires c).After-first-first) a.f.now (then_rest a.asked _ run.others)
+    let l = (goal.at.forcing_rows-requires c).After-first-first in
+    let run = accepted_run _ (net l) a.p a.state.now (then_first _ _ (same_number (answered l) c.if-first-ne0.false)) in
+    long_forcing (net l) a.f.now (then_rest a.asked _ run.others)
 
 pub returns : goal.returns
 unfolding forced_rows
-returns c = goes _ (passed (goal.at.returns c).Else-first-ne0) c.forcing_rows.ensures ∙ then_assoc _ _ _
+returns c = goes _ (same_number (answered (goal.at.returns c).After-first-first) c.if-first-ne0.false) c.forcing_rows.ensures ∙ then_assoc _ _ _

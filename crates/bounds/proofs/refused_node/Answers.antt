@@ -1,35 +1,37 @@
 use Prim.Native.Nat.{ℕ, ◌-◌, ◌≤◌, ◌<◌}
 use mathlib.Core.Path.{◌≡◌, sym, ap, ◌∙◌}
 use mathlib.Core.Bool.{Bool, true}
+use mathlib.Core.List.{List}
 use native.Mathlib.Omega.{arith}
 use borrow.Author.Count.{below_none, below_more}
 use borrow.Author.Rules.{rules}
 use borrow.Author.Tests.{not-true, not-false}
+use lib.Ieee.{Float}
 use Rattle.rows.proofs.ScanLaws.{row_hit, row_none}
 use Rattle.limits.specs.Limits.{in_bounds}
 use Rattle.bounds.specs.State.{node_of, row10}
 use Rattle.bounds.proofs.refused_node.Goals as goal
-use Rattle.bounds.proofs.refused_node.Goals.{After-in_bounds, At-loop-i}
+use Rattle.bounds.proofs.refused_node.Goals.{After-in_bounds}
 
-abbrev test : At-loop-i → ℕ → Bool
-test l k = let a = l.args in in_bounds (node_of a.n a.h.now a.state.now k)
+abbrev test : ℕ → List Float → List Float → ℕ → Bool
+test n h state k = in_bounds (node_of n h state k)
 
-asked : (b : After-in_bounds) → test b b.loop-i.i ≡ b.in_bounds.result
+asked : (b : After-in_bounds) → test b.args.n b.args.h.now b.args.state.now b.loop-i.i ≡ b.in_bounds.result
 asked b = sym (b.in_bounds.ensures ∙ ap in_bounds b.node_of.ensures)
 
 pub returns-then-not-in_bounds : goal.returns-then-not-in_bounds
 unfolding row10
 returns-then-not-in_bounds c =
-    c.refuse.ensures ∙ row_hit (test (goal.at.returns-then-not-in_bounds c).At-loop-i) 9 (λ i. i) c.loop-i-test.true c.loop-i.invariant.1 (asked (goal.at.returns-then-not-in_bounds c).After-in_bounds ∙ not-true _ c.if-not-in_bounds.true)
+    c.refuse.ensures ∙ row_hit (test c.args.n c.args.h.now c.args.state.now) 9 (λ i. i) c.loop-i-test.true c.loop-i.invariant.1 (asked (goal.at.returns-then-not-in_bounds c).After-in_bounds ∙ c.if-not-in_bounds.true)
 
 pub loop-i-preserved : goal.loop-i-preserved
 loop-i-preserved c =
-    (search rules, below_more _ _ c.loop-i.invariant.1 (asked (goal.at.loop-i-preserved c).After-in_bounds ∙ not-false _ c.if-not-in_bounds.false))
+    (search rules, below_more _ _ c.loop-i.invariant.1 (asked (goal.at.loop-i-preserved c).After-in_bounds ∙ c.if-not-in_bounds.false))
 
 pub returns : goal.returns
 unfolding row10
 returns c =
-    c.accept.ensures ∙ row_none (test (goal.at.returns c).At-loop-i) 9 (λ i. i) (λ k h. c.loop-i.invariant.1 k (omega arith))
+    c.accept.ensures ∙ row_none (test c.args.n c.args.h.now c.args.state.now) 9 (λ i. i) (λ k h. c.loop-i.invariant.1 k (omega arith))
 
 pub loop-i-init : goal.loop-i-init
 loop-i-init c = (search rules, below_none _)

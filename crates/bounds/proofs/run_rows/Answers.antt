@@ -10,7 +10,7 @@ use Rattle.nodes.proofs.PartLaws.{mesh_parts}
 use Rattle.bounds.specs.State.{row1_state, run_rows}
 use Rattle.bounds.proofs.StateLaws.{long_state}
 use Rattle.bounds.proofs.run_rows.Goals as goal
-use Rattle.bounds.proofs.run_rows.Goals.{After-mesh_rows-lent, Else-lent-ne0}
+use Rattle.bounds.proofs.run_rows.Goals.{After-mesh_rows-lent}
 
 abbrev net : After-mesh_rows-lent → Mesh
 net c = let a = c.args in mesh a.x.now a.y.now a.tri.now a.h.now a.kind.now
@@ -25,22 +25,16 @@ answered c =
     let long = c.tested-long.ensures ∙ ap (λ (b : Bool). row b 1 0) c.is_runs.ensures in
     c.mesh_rows-lent.ensures ∙ ap (λ (b : Answer). mesh_rows b (net c) a.p) (c.first.ensures ∙ ap (λ (b : Answer). a.asked then b) long)
 
-passed : (c : Else-lent-ne0) → (mesh_rows ((let a = c.args in a.asked then row1_state (net c) a.state.now)) ((let a = c.args in mesh a.x.now a.y.now a.tri.now a.h.now a.kind.now)) c.args.p).number ≡ 0
-passed c =
-    let answered : c.mesh_rows-lent.result ≡ mesh_rows (asked c) (net c) c.args.p = let a = c.args in
-    let long = c.tested-long.ensures ∙ ap (λ (b : Bool). row b 1 0) c.is_runs.ensures in
-    c.mesh_rows-lent.ensures ∙ ap (λ (b : Answer). mesh_rows b (net c) a.p) (c.first.ensures ∙ ap (λ (b : Answer). a.asked then b) long) in
-    same_number (answered) c.if-lent-ne0.false
-
 pub returns-then-lent-ne0 : goal.returns-then-lent-ne0
 unfolding run_rows
 returns-then-lent-ne0 c = stops _ (answered (goal.at.returns-then-lent-ne0 c).After-mesh_rows-lent) c.if-lent-ne0.true
 
 pub nodes-requires : goal.nodes-requires
 nodes-requires c =
-    let s = (mesh_parts _ (net (goal.at.nodes-requires c).After-mesh_rows-lent) _ (passed (goal.at.nodes-requires c).Else-lent-ne0)).0 in
-    ((shaped _ (net (goal.at.nodes-requires c).After-mesh_rows-lent) s).sized.h, long_state (net (goal.at.nodes-requires c).After-mesh_rows-lent) c.args.state.now (then_rest c.args.asked _ (shaped_asked _ (net (goal.at.nodes-requires c).After-mesh_rows-lent) s)))
+    let l = (goal.at.nodes-requires c).After-mesh_rows-lent in
+    let s = (mesh_parts _ (net l) _ (same_number (answered l) c.if-lent-ne0.false)).0 in
+    ((shaped _ (net l) s).sized.h, long_state (net l) c.args.state.now (then_rest c.args.asked _ (shaped_asked _ (net l) s)))
 
 pub returns : goal.returns
 unfolding run_rows
-returns c = goes _ (passed (goal.at.returns c).Else-lent-ne0) c.nodes.ensures
+returns c = goes _ (same_number (answered (goal.at.returns c).After-mesh_rows-lent) c.if-lent-ne0.false) c.nodes.ensures

@@ -1,6 +1,6 @@
 use mathlib.Core.Path.{sym, ◌∙◌}
 use native.Mathlib.Omega.{arith}
-use borrow.Author.Tests.{le-leb, leb-true, lt-leb, not-true, not-false}
+use borrow.Author.Tests.{le-leb, leb-true, lt-leb}
 use Rattle.crossing.proofs.CrossLaws.{number_none}
 use Rattle.crossing.proofs.number_at.Goals as goal
 
@@ -9,10 +9,10 @@ returns-then-w-gt8 c = number_none _ _ _ (rw (lt-leb _ 8 c.if-w-gt8.true))
 
 pub returns-then-not-is_within : goal.returns-then-not-is_within
 returns-then-not-is_within c =
-    number_none _ _ _ (rw (le-leb c.args.w 8 (omega arith)) (sym c.is_within.ensures ∙ not-true _ c.if-not-is_within.true))
+    number_none _ _ _ (rw (le-leb c.args.w 8 (omega arith)) (sym c.is_within.ensures ∙ c.if-not-is_within.true))
 
 pub taken-requires : goal.taken-requires
-taken-requires c = (omega arith, leb-true _ _ (sym c.is_within.ensures ∙ not-false _ c.if-not-is_within.false))
+taken-requires c = (omega arith, leb-true _ _ (sym c.is_within.ensures ∙ c.if-not-is_within.false))
 
 pub returns : goal.returns
 returns c = c.taken.ensures

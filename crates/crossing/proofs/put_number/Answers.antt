@@ -1,7 +1,7 @@
 use Prim.Native.Nat.{suc, ◌+◌, ◌-◌, ◌≤◌}
 use mathlib.Core.Path.{◌≡◌, refl, sym, ◌∙◌}
 use native.Mathlib.Omega.{arith}
-use borrow.Author.Tests.{leb-true, not-true, not-false}
+use borrow.Author.Tests.{leb-true}
 use lib.ListN.{length, length-set}
 use Rattle.frames.specs.Bytes.{field}
 use Rattle.lines.specs.Building.{laid}
@@ -12,10 +12,10 @@ use Rattle.crossing.proofs.put_number.Goals as goal
 
 pub returns-then-not-is_within : goal.returns-then-not-is_within
 unfolding written_at
-returns-then-not-is_within c = rw (sym c.is_within.ensures ∙ not-true _ c.if-not-is_within.true)
+returns-then-not-is_within c = rw (sym c.is_within.ensures ∙ c.if-not-is_within.true)
 
 pub loop-left-init : goal.loop-left-init
-loop-left-init c = (omega arith, refl, leb-true _ _ (sym c.is_within.ensures ∙ not-false _ c.if-not-is_within.false), refl)
+loop-left-init c = (omega arith, refl, leb-true _ _ (sym c.is_within.ensures ∙ c.if-not-is_within.false), refl)
 
 pub loop-left-preserved : goal.loop-left-preserved
 loop-left-preserved c =
@@ -29,7 +29,7 @@ unfolding written_at field
 returns c =
     let p = c.loop-left in
     let z : p.left ≡ 0 = omega arith in
-    sym (laid_none p.b _) ∙ (rw z at p.invariant.3) ∙ rw (sym c.is_within.ensures ∙ not-false _ c.if-not-is_within.false)
+    sym (laid_none p.b _) ∙ (rw z at p.invariant.3) ∙ rw (sym c.is_within.ensures ∙ c.if-not-is_within.false)
 
 pub shape_of-b : goal.shape_of-b
 shape_of-b c = c.loop-left.invariant.1

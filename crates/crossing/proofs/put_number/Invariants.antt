@@ -1,7 +1,7 @@
 use Prim.Native.Nat.{suc, ◌+◌, ◌-◌, ◌≤◌}
 use mathlib.Core.Path.{◌≡◌, refl, sym, ◌∙◌}
 use native.Mathlib.Omega.{arith}
-use borrow.Author.Tests.{leb-true, not-true, not-false}
+use borrow.Author.Tests.{leb-true}
 use lib.ListN.{length, length-set}
 use Rattle.frames.specs.Bytes.{field}
 use Rattle.lines.specs.Building.{laid}

@@ -23,6 +23,7 @@ returns c =
     (c.loop-k.invariant.2 ∙ rw last (sym (number_there _ _ _ c.requires.0 c.requires.1)), rw last at c.loop-k.invariant.1)
 
 pub loop-k-init : goal.loop-k-init
+unfolding number
 loop-k-init c = (omega arith, omega arith, refl)
 
 pub overflow_mul-v : goal.overflow_mul-v

@@ -15,27 +15,24 @@ use Rattle.lists.proofs.TableLaws.{up_none, fill_more, fill_all}
 use Rattle.crossing.specs.Crossing.{signed}
 use Rattle.location.specs.declared.seeking.Point.{Point}
 use Rattle.keeping.specs.Record.{Field, east_field, north_field, field_in, count_in, point_in, points_in}
+use Rattle.keeping.proofs.points.Invariants.{each}
 use Rattle.keeping.proofs.points.Goals as goal
 use Rattle.keeping.proofs.points.Goals.{After-loop-g}
-
--- a coordinate of each gauge
-abbrev each : List ℕ → Field → ℕ → ℤ
-each b f g = signed (field_in b f g)
 
 pub loop-g-preserved : goal.loop-g-preserved
 unfolding point_in
 loop-g-preserved c =
     let i = c.loop-g.invariant in
-    let here = c.point_at-q.ensures in (
+    let here = c.point_at-q.ensures in
+    let told = c.point_at-q.type_inv.1.1 in (
       omega arith,
       i.1,
       i.2,
-      fill_more _ _ _ i.3 (omega arith) (kept_as w32 (record { sfits = c.struct_told.given.0.1 }) (ap (λ (p : Point). p.x) here)),
-      fill_more _ _ _ i.4 (omega arith) (kept_as w32 (record { sfits = c.struct_told-in-loop-g-1.given.1.0.1 }) (ap (λ (p : Point). p.y) here)),
+      fill_more _ _ _ i.3 (omega arith) (kept_as w32 (record { sfits = told.0.1 }) (ap (λ (p : Point). p.x) here)),
+      fill_more _ _ _ i.4 (omega arith) (kept_as w32 (record { sfits = told.1.0.1 }) (ap (λ (p : Point). p.y) here)),
     )
 
 -- all 64 rows are read
-
 abbrev b : (c : After-loop-g) → List ℕ
 b c = c.args.kept.now
 

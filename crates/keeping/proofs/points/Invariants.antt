@@ -17,8 +17,17 @@ use Rattle.location.specs.declared.seeking.Point.{Point}
 use Rattle.keeping.specs.Record.{Field, east_field, north_field, field_in, count_in, point_in, points_in}
 use Rattle.keeping.proofs.points.Given as goal
 
+-- a coordinate of each gauge
+abbrev pub each : List ℕ → Field → ℕ → ℤ
+each b f g = signed (field_in b f g)
+
 abbrev pub invariant-loop-g : goal.invariant-loop-g
-invariant-loop-g l = (l.g ≤ 64) × (length l.initial.x ≡ 64) × (length l.initial.y ≡ 64) × (l.x ≡ up_to l.g (each l.kept east_field) l.initial.x) × (l.y ≡ up_to l.g (each l.kept north_field) l.initial.y)
+invariant-loop-g l =
+    (l.g ≤ 64)
+    × (length l.initial.x ≡ 64)
+    × (length l.initial.y ≡ 64)
+    × (l.x ≡ up_to l.g (each l.kept east_field) l.initial.x)
+    × (l.y ≡ up_to l.g (each l.kept north_field) l.initial.y)
 
 abbrev pub decreases-loop-g : goal.decreases-loop-g
 decreases-loop-g l = 64 - l.g

@@ -18,11 +18,12 @@ pub returns : goal.returns
 unfolding with_point
 returns c =
     let q = c.args.q in
+    let g = c.well_formed.1.1.0.1.1 in
     rw (
       c.put_number-2.ensures,
-      handed q.y c.struct_told-2-1.given.1.0.1 c.pattern_32-2.ensures,
+      handed q.y g.1.0.1 c.pattern_32-2.ensures,
       c.place_of-2.ensures,
       c.put_number.ensures,
-      handed q.x c.struct_told.given.0.1 c.pattern_32.ensures,
+      handed q.x g.0.1 c.pattern_32.ensures,
       c.place_of.ensures,
     )

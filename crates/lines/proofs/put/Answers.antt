@@ -1,10 +1,10 @@
-use Prim.Native.Nat.{◌≤◌, ◌-◌}
+use Prim.Native.Nat.{◌≤◌}
 use mathlib.Core.Path.{◌≡◌, refl, sym, ◌∙◌}
 use native.Mathlib.Numerals.{add-one}
 use native.Mathlib.Omega.{arith}
 use borrow.Author.Rules.{rules}
 use lib.ListN.{length, take, length-set}
-use lib.Seq.{paste, paste-zero, paste-suc, take_all, length-take-le}
+use lib.Seq.{paste-zero, paste-suc, take_all, length-take-le}
 use Rattle.lines.specs.Building.{longest, written, laid}
 use Rattle.lines.proofs.BuildLaws.{put_fits, put_not}
 use Rattle.lines.proofs.put.Goals as goal
@@ -19,20 +19,19 @@ some c =
     let l = c.args.line in
     let z : length l.bytes ≡ longest = search rules in
     elim c.if-len-lt-LONGEST.branch [
-      then-len-lt-LONGEST w ↦ (rw w.n-is, z, omega arith)
-    | else-len-lt-LONGEST w ↦ (rw w.n-is (take_all l.len l.bytes (omega arith) ∙ sym (take_all longest l.bytes (omega arith))), z, omega arith)
+      | then-len-lt-LONGEST w ↦ (rw w.n-is, z, omega arith)
+      | else-len-lt-LONGEST w ↦ (rw w.n-is (take_all l.len l.bytes (omega arith) ∙ sym (take_all longest l.bytes (omega arith))), z, omega arith)
     ]
 
 long : (c : Joined-len-lt-LONGEST) → length (take c.if-len-lt-LONGEST.n c.args.line.bytes) ≡ c.if-len-lt-LONGEST.n
 long c = length-take-le _ _ (omega (arith, some c))
 
 pub loop-k-preserved : goal.loop-k-preserved
-loop-k-preserved c =
-    (
-      omega arith,
-      simp length-set c.loop-k.invariant.1,
-      rw (c.loop-k.invariant.2, add-one) (paste-suc c.args.text.now c.args.at c.args.line.bytes c.loop-k.k 0 (omega arith) (omega (arith, some (goal.at.loop-k-preserved c).Joined-len-lt-LONGEST))),
-    )
+loop-k-preserved c = (
+  omega arith,
+  simp length-set c.loop-k.invariant.1,
+  rw (c.loop-k.invariant.2, add-one) (paste-suc c.args.text.now c.args.at c.args.line.bytes c.loop-k.k 0 (omega arith) (omega (arith, some (goal.at.loop-k-preserved c).Joined-len-lt-LONGEST))),
+)
 
 pub returns : goal.returns
 unfolding laid

@@ -14,50 +14,44 @@ use Rattle.looking.specs.Lent.{Lent, lent, lent_rows}
 use Rattle.looking.specs.Looking.{is_on, triangle_at, level_at}
 use Rattle.looking.proofs.LookLaws.{elements_length, look_answer, triangle_seen, level_seen, sight_refused, sight_accepted, few_triangles}
 use Rattle.looking.proofs.look_at.Goals as goal
-use Rattle.looking.proofs.look_at.Goals.{After-look-seen, Else-answer-ne0, Start}
+use Rattle.looking.proofs.look_at.Goals.{Start, Else-answer-ne0}
 
 abbrev its : Start → Lent
 its s = let a = s.args in lent a.state.now a.x.now a.y.now a.tri.now a.h.now a.kind.now a.p
 
-answered : (c : After-look-seen) → c.look-seen.result.answer ≡ lent_rows ((let a = c.args in lent a.state.now a.x.now a.y.now a.tri.now a.h.now a.kind.now a.p))
-answered c = look_answer _ _ c.look-seen.ensures
-
 pub returns-then-answer-ne0 : goal.returns-then-answer-ne0
 unfolding of_bits
-returns-then-answer-ne0 c = sight_refused _ _ (answered (goal.at.returns-then-answer-ne0 c).After-look-seen) c.if-answer-ne0.true
+returns-then-answer-ne0 c =
+    sight_refused (its (goal.at.returns-then-answer-ne0 c).Start) _ (look_answer _ _ c.look-seen.ensures) c.if-answer-ne0.true
 
 -- where the rows accept: the point is the one that was asked, and what was seen there
+abbrev b : Else-answer-ne0 → Lent
+b c = let a = c.args in lent a.state.now a.x.now a.y.now a.tri.now a.h.now a.kind.now a.p
 
-abbrev k : (c : Else-answer-ne0) → tie.After-look
-k c = c
+here : (c : Else-answer-ne0) → record { x = to_z w32 (of_z w32 c.args.q.x); y = to_z w32 (of_z w32 c.args.q.y) } ≡ c.args.q
+here c =
+    let q = c.args.q in
+    let g = c.well_formed.0.1.1 in
+    λ i. record { x = kept_as w32 {r = q.x} (record { sfits = g.0.1 }) refl i; y = kept_as w32 {r = q.y} (record { sfits = g.1.0.1 }) refl i }
 
-abbrev b : (c : Else-answer-ne0) → Lent
-b c = its (start (k c))
+triangle : (c : Else-answer-ne0) → get_or c.look-seen.result.triangle 0 0 ≡ triangle_at (b c) c.args.q
+triangle c =
+    triangle_seen (b c) _ c.look-seen.ensures c.if-answer-ne0.false 0 (omega arith) (omega arith) ∙ ap (triangle_at (b c)) (here c)
 
-abbrev q : (c : Else-answer-ne0) → Point
-q c = (start (k c)).args.q
+level : (c : Else-answer-ne0) → get_or c.look-seen.result.level 0 nan ≡ level_at (b c) c.args.q
+level c = level_seen (b c) _ c.look-seen.ensures c.if-answer-ne0.false 0 (omega arith) (omega arith) ∙ ap (level_at (b c)) (here c)
 
-here : (c : Else-answer-ne0) → record { x = to_z w32 (of_z w32 (q c).x); y = to_z w32 (of_z w32 (q c).y) } ≡ (q c)
-here c = λ i. record {
-  x = kept_as w32 {r = (q c).x} (record { sfits = (k c).struct_told.given.0.1 }) refl i;
-  y = kept_as w32 {r = (q c).y} (record { sfits = (k c).struct-told2.given.1.0.1 }) refl i;
-}
+inside : (c : Else-answer-ne0) → ltb (get_or c.look-seen.result.triangle 0 0) (length (b c).tri / 2 / 3) ≡ is_on (b c) c.args.q
+inside c = λ i. ltb (triangle c i) (sym (elements_length 2 (λ n. n) (b c).tri) i / 3)
 
-triangle : (c : Else-answer-ne0) → get_or (k c).look.result.triangle 0 0 ≡ triangle_at (b c) (q c)
-triangle c = triangle_seen (b c) _ (k c).look.ensures c.if-answer-ne0.false 0 (omega arith) (omega arith) ∙ ap (triangle_at (b c)) (here c)
-
-level : (c : Else-answer-ne0) → get_or (k c).look.result.level 0 nan ≡ level_at (b c) (q c)
-level c = level_seen (b c) _ (k c).look.ensures c.if-answer-ne0.false 0 (omega arith) (omega arith) ∙ ap (level_at (b c)) (here c)
-
-inside : (c : Else-answer-ne0) → ltb (get_or (k c).look.result.triangle 0 0) (length (b c).tri / 2 / 3) ≡ is_on (b c) (q c)
-inside c = λ i. ltb ((triangle c) i) (sym (elements_length 2 (λ n. n) (b c).tri) i / 3)
-
-few : (c : Else-answer-ne0) → get_or (k c).look.result.triangle 0 0 ≤ 8192
-few c = rw (triangle c) (few_triangles (b c) (q c) (same_number (answered (k c)) c.if-answer-ne0.false))
+few : (c : Else-answer-ne0) → get_or c.look-seen.result.triangle 0 0 ≤ 8192
+few c =
+    rw (triangle c) (few_triangles (b c) c.args.q (same_number (look_answer (b c) _ c.look-seen.ensures) c.if-answer-ne0.false))
 
 pub returns : goal.returns
 returns c =
-    sight_accepted (b (goal.at.returns c).Else-answer-ne0) (q (goal.at.returns c).Else-answer-ne0) (answered (k (goal.at.returns c).Else-answer-ne0)) c.if-answer-ne0.false (triangle (goal.at.returns c).Else-answer-ne0) (inside (goal.at.returns c).Else-answer-ne0) (level (goal.at.returns c).Else-answer-ne0)
+    let e = (goal.at.returns c).Else-answer-ne0 in
+    sight_accepted (b e) c.args.q (look_answer _ _ c.look-seen.ensures) c.if-answer-ne0.false (triangle e) (inside e) (level e)
 
 pub overflow_cast-result : goal.overflow_cast-result
 overflow_cast-result c = record { fits = omega (arith, few (goal.at.overflow_cast-result c).Else-answer-ne0) }

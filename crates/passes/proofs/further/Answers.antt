@@ -51,7 +51,7 @@ pub go_on-answer-requires : goal.go_on-answer-requires
 go_on-answer-requires c =
     let lengths = c.loop-j.invariant.1 in
     let n = length c.args.x.now in
-    (c.requires.shaped, (lengths.0, lengths.1, lengths.2, ap length (lent_part n c.args.list.now c.loop-j.j) ∙ forcing_long n c.args.list.now c.loop-j.j (listed n c.args.list.now c.loop-j-test.true)))
+    record { shaped = c.requires.shaped; next_len = (lengths.0, lengths.1, lengths.2, ap length (lent_part n c.args.list.now c.loop-j.j) ∙ forcing_long n c.args.list.now c.loop-j.j (listed n c.args.list.now c.loop-j-test.true)) }
 
 pub returns-then-answer-ne0 : goal.returns-then-answer-ne0
 returns-then-answer-ne0 c =
@@ -65,7 +65,7 @@ loop-j-preserved c =
     let kept = c.go_on-answer.auto in
     let lengths = c.loop-j.invariant.1 in (
       (omega (arith, c.loop-j-test.true), omega (arith, c.loop-j.invariant.0), omega (arith, c.loop-j.invariant.0, may)),
-      (kept.0 ∙ lengths.0, kept.1.0 ∙ lengths.1, kept.1.1.0 ∙ lengths.2),
+      (kept.next ∙ lengths.0, kept.work ∙ lengths.1, kept.sums ∙ lengths.2),
       sym more ∙ c.loop-j.invariant.2,
     )
 
@@ -73,17 +73,6 @@ pub returns : goal.returns
 returns c =
     let none = onward_none (net (goal.at.returns c).Start) c.args.p c.args.from (forcing (goal.at.returns c).Start) _ c.loop-j.j c.loop-j.next c.loop-j-test.false in
     (omega (arith, c.loop-j.invariant.0), (λ i. onward_of (c.accept.ensures i) (counted (goal.at.returns c).At-loop-j i) c.loop-j.next) ∙ sym none ∙ c.loop-j.invariant.2)
-
--- the rooms keep their lengths
-
-next_long : (l : At-loop-j) → length l.loop-j.next ≡ length l.args.next.now
-next_long l = l.loop-j.invariant.1.0 ∙ sym l.requires.next_len.0
-
-work_long : (l : At-loop-j) → length l.loop-j.work ≡ length l.args.work.now
-work_long l = l.loop-j.invariant.1.1 ∙ sym l.requires.next_len.1
-
-sums_long : (l : At-loop-j) → length l.loop-j.sums ≡ length l.args.sums.now
-sums_long l = l.loop-j.invariant.1.2 ∙ sym l.requires.next_len.2
 
 pub overflow_mul-here : goal.overflow_mul-here
 overflow_mul-here c = (here (goal.at.overflow_mul-here c).In-loop-j).start
@@ -103,29 +92,9 @@ slice_bounds-f-end c = omega (arith, (here (goal.at.slice_bounds-f-end c).In-loo
 pub overflow_sub-result : goal.overflow_sub-result
 overflow_sub-result c = omega (arith, c.loop-j.invariant.0)
 
-pub shape_of-next-then-answer-ne0 : goal.shape_of-next-then-answer-ne0
-shape_of-next-then-answer-ne0 c = c.go_on-answer.auto.next ∙ next_long (goal.at.shape_of-next-then-answer-ne0 c).At-loop-j
-
-pub shape_of-work-then-answer-ne0 : goal.shape_of-work-then-answer-ne0
-shape_of-work-then-answer-ne0 c = c.go_on-answer.auto.work ∙ work_long (goal.at.shape_of-work-then-answer-ne0 c).At-loop-j
-
-pub shape_of-sums-then-answer-ne0 : goal.shape_of-sums-then-answer-ne0
-shape_of-sums-then-answer-ne0 c = c.go_on-answer.auto.sums ∙ sums_long (goal.at.shape_of-sums-then-answer-ne0 c).At-loop-j
-
 pub overflow_add-step-in-loop-j : goal.overflow_add-step-in-loop-j
 overflow_add-step-in-loop-j c = record { fits = omega (arith, (loop-j-preserved c).0) }
-
-pub overflow_step-j : goal.overflow_step-j
-overflow_step-j c = record { fits = omega (arith, (loop-j-preserved c).0) }
 
 pub overflow_sub-result-2 : goal.overflow_sub-result-2
 overflow_sub-result-2 c = omega (arith, c.loop-j.invariant.0)
 
-pub shape_of-next : goal.shape_of-next
-shape_of-next c = next_long (goal.at.shape_of-next c).At-loop-j
-
-pub shape_of-work : goal.shape_of-work
-shape_of-work c = work_long (goal.at.shape_of-work c).At-loop-j
-
-pub shape_of-sums : goal.shape_of-sums
-shape_of-sums c = sums_long (goal.at.shape_of-sums c).At-loop-j

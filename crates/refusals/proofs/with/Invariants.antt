@@ -1,14 +1,8 @@
-use Prim.Native.Nat.{◌≤◌, ◌<◌, ◌+◌, ◌-◌}
+use Prim.Native.Nat.{◌≤◌, ◌-◌}
 use mathlib.Core.Path.{◌≡◌}
-use native.Mathlib.Numerals.{add-one}
-use native.Mathlib.Omega.{arith}
-use borrow.Author.Rules.{rules}
-use borrow.Author.Tests.{le-leb, lt-leb}
-use lib.ListN.{length, length-set}
-use lib.Seq.{paste, paste-zero, paste-suc, take-length}
-use Rattle.lines.specs.Building.{laid}
+use lib.ListN.{length}
+use lib.Seq.{paste}
 use Rattle.refusals.specs.Refusals.{room_of_words}
-use Rattle.refusals.specs.Private.{joined}
 use Rattle.refusals.proofs.with.Given as goal
 
 abbrev pub invariant-loop-k : goal.invariant-loop-k

@@ -24,15 +24,17 @@ abbrev left : After-settle-answer → Settled
 left c = settled c.settle-answer.result c.settle-answer.new.next c.settle-answer.new.work c.settle-answer.new.sums
 
 -- what they were to leave
-abbrev its : Start → Settled
-its s = let a = s.args in settle_of (net s) a.p a.state.now a.f.now (row11 a.clock.step) (lent s)
+abbrev its : After-settle-answer → Settled
+its c =
+    let a = c.args in
+    settle_of (mesh a.x.now a.y.now a.tri.now a.h.now a.kind.now) a.p a.state.now a.f.now (row11 a.clock.step) (lent_rooms a.next.now a.work.now a.sums.now)
 
-answered : (c : After-settle-answer) → left c ≡ (let a = c.args in settle_of (net c) a.p a.state.now a.f.now (row11 a.clock.step) (lent c))
+answered : (c : After-settle-answer) → left c ≡ its c
 answered c =
     let a = c.args in
-    c.settle-answer.ensures ∙ ap (λ (also : Answer). settle_of ((let a = c.args in mesh a.x.now a.y.now a.tri.now a.h.now a.kind.now)) a.p a.state.now a.f.now also ((let a = c.args in lent_rooms a.next.now a.work.now a.sums.now))) c.may_count-also.ensures
+    c.settle-answer.ensures ∙ ap (λ (also : Answer). settle_of (mesh a.x.now a.y.now a.tri.now a.h.now a.kind.now) a.p a.state.now a.f.now also (lent_rooms a.next.now a.work.now a.sums.now)) c.may_count-also.ensures
 
-number : (c : After-settle-answer) → ((let a = c.args in settle_of (net c) a.p a.state.now a.f.now (row11 a.clock.step) (lent c))).answer.number ≡ c.settle-answer.result.number
+number : (c : After-settle-answer) → (its c).answer.number ≡ c.settle-answer.result.number
 number c = sym (ap (λ (o : Settled). o.answer.number) (answered c))
 
 pub returns-then-answer-ne0 : goal.returns-then-answer-ne0

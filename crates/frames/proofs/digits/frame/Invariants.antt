@@ -1,6 +1,5 @@
-use Rattle.std.proofs.Common.{◌≡◌, ◌-◌, ◌<◌, ◌≤◌, length, take, sym, refl, ◌∙◌, add-one, arith, length-set, take_all, take-suc, take-suc-set}
+use Rattle.std.proofs.Common.{◌≡◌, ◌-◌, ◌≤◌, length, take}
 use Rattle.frames.specs.Bytes.{bytes}
-use Rattle.frames.proofs.ByteLaws.{bytes_length}
 use Rattle.frames.proofs.digits.frame.Given as goal
 
 abbrev pub invariant-loop-k : goal.invariant-loop-k

@@ -1,4 +1,4 @@
-use Rattle.std.proofs.Common.{◌≡◌, ◌+◌, ◌-◌, ◌*◌, ◌/◌, ◌%◌, ◌<◌, ◌≤◌, ◌&&◌, length, get_or, drop, sym, refl, ap, ◌∙◌, ⊎_elim, arith, length-drop}
+use Rattle.std.proofs.Common.{◌≡◌, ◌*◌, ◌/◌, ◌%◌, ◌<◌, ◌≤◌, length, get_or, drop, sym, refl, ap, ◌∙◌, arith, length-drop}
 use mathlib.Core.Bool.{and_assoc, and-true}
 use Rattle.frames.specs.Bytes.{bytes, all_digits, sum}
 use Rattle.frames.specs.Reading.{tallied}
@@ -15,8 +15,8 @@ added : (j : Joined-side-eq0) → j.if-side-eq0.part ≡ part (j.loop-c.c % 2) (
 added j =
     let side = j.loop-c.invariant.1 in
     elim j.if-side-eq0.branch [
-      then-side-eq0 t ↦ t.part-is ∙ rw j.worth-digit.ensures (sym (part_high (j.loop-c.c % 2) _ (omega (arith, side, t.if-side-eq0.true))))
-    | else-side-eq0 t ↦ t.part-is ∙ rw j.worth-digit.ensures (sym (part_low (j.loop-c.c % 2) _ (omega (arith, side, t.if-side-eq0.false))))
+      | then-side-eq0 t ↦ t.part-is ∙ rw j.worth-digit.ensures (sym (part_high (j.loop-c.c % 2) _ (omega (arith, side, t.if-side-eq0.true))))
+      | else-side-eq0 t ↦ t.part-is ∙ rw j.worth-digit.ensures (sym (part_low (j.loop-c.c % 2) _ (omega (arith, side, t.if-side-eq0.false))))
     ]
 
 pub loop-c-preserved : goal.loop-c-preserved

@@ -1,4 +1,4 @@
-use Rattle.std.proofs.Common.{◌≡◌, ◌-◌, ◌^◌, ◌<◌, ◌≤◌, take, drop, sym, refl, ◌∙◌, arith}
+use Rattle.std.proofs.Common.{◌≡◌, ◌^◌, ◌<◌, sym, refl, ◌∙◌, arith}
 use Rattle.frames.specs.Bytes.{number}
 use Rattle.frames.proofs.ByteLaws.{number_room, number_grows, number_more}
 use Rattle.frames.proofs.reading.field.Goals as goal

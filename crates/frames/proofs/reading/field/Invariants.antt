@@ -1,6 +1,5 @@
-use Rattle.std.proofs.Common.{◌≡◌, ◌-◌, ◌^◌, ◌<◌, ◌≤◌, take, drop, sym, refl, ◌∙◌, arith}
+use Rattle.std.proofs.Common.{◌≡◌, ◌-◌, ◌^◌, ◌<◌, ◌≤◌, take, drop}
 use Rattle.frames.specs.Bytes.{number}
-use Rattle.frames.proofs.ByteLaws.{number_room, number_grows, number_more}
 use Rattle.frames.proofs.reading.field.Given as goal
 
 abbrev pub invariant-loop-k : goal.invariant-loop-k

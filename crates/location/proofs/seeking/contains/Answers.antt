@@ -12,7 +12,8 @@ pub returns : goal.returns
 unfolding none_negative
 returns c =
     let w = c.weights_at-w.result in
-    (λ i. part w.w1 c.struct_told.given.0.1 i
-    && part w.w2 c.struct_told-2-1.given.1.0.1 i
-    && part w.w3 c.struct_told-3-1.given.1.1.0.1 i)
+    let g = c.weights_at-w.type_inv.1.1 in
+    (λ i. part w.w1 g.0.1 i
+    && part w.w2 g.1.0.1 i
+    && part w.w3 g.1.1.0.1 i)
     ∙ ap none_negative c.weights_at-w.ensures

@@ -15,7 +15,7 @@ unfolding elevation
 returns c =
     let a = c.args in
     let w = a.w in
-    let g = c.struct_told.given in
+    let g = c.well_formed.0.1.1 in
     λ i. ((part w.w1 g.0.1 c.nearest_i64_to_f64.ensures i ⊗ a.z1
     ⊕ part w.w2 g.1.0.1 c.nearest_i64_to_f64-2.ensures i ⊗ a.z2)
     ⊕ part w.w3 g.1.1.0.1 c.nearest_i64_to_f64-3.ensures i ⊗ a.z3)

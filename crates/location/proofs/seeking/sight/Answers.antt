@@ -15,38 +15,31 @@ pub weights_at-w-requires : goal.weights_at-w-requires
 weights_at-w-requires c = (c.if-t-tri.true, c.requires.by_index _ c.if-t-tri.true)
 
 -- the corners of the triangle that was found, and that they are nodes
-
-abbrev start : (c : After-corners_at-c) → tie.Start
-start c = c
-
-abbrev found : (c : After-corners_at-c) → ℕ
-found c = c.locate-t.result
-
-its : (c : After-corners_at-c) → nodes_of c.corners_at-c.result ≡ corners (start c).args.tri.now (found c)
+its : (c : After-corners_at-c) → nodes_of c.corners_at-c.result ≡ corners c.args.tri.now c.locate-t.result
 its c = corners_read _ _ c.if-t-tri.true c.corners_at-c.ensures
 
-below : (c : After-corners_at-c) → Below (nodes_of c.corners_at-c.result) (length (start c).args.x.now)
-below c = rw (its c) ((start c).requires.by_index (found c) c.if-t-tri.true).nodes
+below : (c : After-corners_at-c) → Below (nodes_of c.corners_at-c.result) (length c.args.x.now)
+below c = rw (its c) (c.requires.by_index c.locate-t.result c.if-t-tri.true).nodes
 
 pub present-z1-requires : goal.present-z1-requires
-present-z1-requires c = ((below (goal.at.present-z1-requires c).After-corners_at-c).first, (start (goal.at.present-z1-requires c).After-corners_at-c).requires.state_len)
+present-z1-requires c = ((below (goal.at.present-z1-requires c).After-corners_at-c).first, c.requires.state_len)
 
 pub present-z2-requires : goal.present-z2-requires
-present-z2-requires c = ((below (goal.at.present-z2-requires c).After-corners_at-c).second, (start (goal.at.present-z2-requires c).After-corners_at-c).requires.state_len)
+present-z2-requires c = ((below (goal.at.present-z2-requires c).After-corners_at-c).second, c.requires.state_len)
 
 pub present-z3-requires : goal.present-z3-requires
-present-z3-requires c = ((below (goal.at.present-z3-requires c).After-corners_at-c).third, (start (goal.at.present-z3-requires c).After-corners_at-c).requires.state_len)
+present-z3-requires c = ((below (goal.at.present-z3-requires c).After-corners_at-c).third, c.requires.state_len)
 
 -- the elevations there
 leveled : (c : After-present-z3) →
-    let a = ((c)).args in
+    let a = c.args in
     ◌≡◌ {A = Three Float} (record { first = c.present-z1.result; second = c.present-z2.result; third = c.present-z3.result })
-    (levels (in_run (length a.x.now) 1 a.state.now) (corners a.tri.now ((c.locate-t.result))))
+    (levels (in_run (length a.x.now) 1 a.state.now) (corners a.tri.now c.locate-t.result))
 leveled c =
-    let its : nodes_of c.corners_at-c.result ≡ corners (start c).args.tri.now (found c) = corners_read _ _ c.if-t-tri.true c.corners_at-c.ensures in
-    let a = ((c)).args in
+    let its : nodes_of c.corners_at-c.result ≡ corners c.args.tri.now c.locate-t.result = corners_read _ _ c.if-t-tri.true c.corners_at-c.ensures in
+    let a = c.args in
     (λ i. record { first = c.present-z1.ensures i; second = c.present-z2.ensures i; third = c.present-z3.ensures i })
-    ∙ ap (levels (in_run (length a.x.now) 1 a.state.now)) (its)
+    ∙ ap (levels (in_run (length a.x.now) 1 a.state.now)) its
 
 pub returns-then-t-tri : goal.returns-then-t-tri
 returns-then-t-tri c =

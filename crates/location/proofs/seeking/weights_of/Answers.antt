@@ -30,36 +30,33 @@ twice_area-w3-requires c = subst Short (sym (third (goal.at.twice_area-w3-requir
 pub twice_area-d-requires : goal.twice_area-d-requires
 twice_area-d-requires c = subst Short (sym c.sides_of-3.ensures) (own_short _ _ (placed (goal.at.twice_area-d-requires c).Start))
 
-abbrev start : (c : After-twice_area-d) → tie.Start
-start c = c
-
-w2 : (c : After-twice_area-d) → to_z w64 (of_z w64 c.twice_area-w2.result) ≡ D (sides_at (for_second (start c).args.c (start c).args.p))
+w2 : (c : After-twice_area-d) → to_z w64 (of_z w64 c.twice_area-w2.result) ≡ D (sides_at (for_second c.args.c c.args.p))
 w2 c =
     let second : let a = c.args in c.sides_of.result ≡ sides_at (for_second a.c a.p) = c.sides_of.ensures ∙ ap sides_at c.for_second.ensures in
     kept c.twice_area-w2.type_inv (c.twice_area-w2.ensures ∙ ap D (second))
 
-w3 : (c : After-twice_area-d) → to_z w64 (of_z w64 c.twice_area-w3.result) ≡ D (sides_at (for_third (start c).args.c (start c).args.p))
+w3 : (c : After-twice_area-d) → to_z w64 (of_z w64 c.twice_area-w3.result) ≡ D (sides_at (for_third c.args.c c.args.p))
 w3 c =
     let third : let a = c.args in c.sides_of-2.result ≡ sides_at (for_third a.c a.p) = c.sides_of-2.ensures ∙ ap sides_at c.for_third.ensures in
     kept c.twice_area-w3.type_inv (c.twice_area-w3.ensures ∙ ap D (third))
 
-d : (c : After-twice_area-d) → to_z w64 (of_z w64 c.twice_area-d.result) ≡ D (sides_at (start c).args.c)
+d : (c : After-twice_area-d) → to_z w64 (of_z w64 c.twice_area-d.result) ≡ D (sides_at c.args.c)
 d c = kept c.twice_area-d.type_inv (c.twice_area-d.ensures ∙ ap D c.sides_of-3.ensures)
 
 pub overflow_sub-w1 : goal.overflow_sub-w1
 overflow_sub-w1 c =
-    let h = placed (start (goal.at.overflow_sub-w1 c).After-twice_area-d) in
+    let h = placed (goal.at.overflow_sub-w1 c).Start in
     once_fits _ _ _ (own_short _ _ h) (second_short _ _ h) (third_short _ _ h) (d (goal.at.overflow_sub-w1 c).After-twice_area-d) (w2 (goal.at.overflow_sub-w1 c).After-twice_area-d) (w3 (goal.at.overflow_sub-w1 c).After-twice_area-d)
 
 pub overflow_sub-w1-2 : goal.overflow_sub-w1-2
 overflow_sub-w1-2 c =
-    let h = placed (start (goal.at.overflow_sub-w1-2 c).After-twice_area-d) in
+    let h = placed (goal.at.overflow_sub-w1-2 c).Start in
     twice_fits _ _ _ (own_short _ _ h) (second_short _ _ h) (third_short _ _ h) (d (goal.at.overflow_sub-w1-2 c).After-twice_area-d) (w2 (goal.at.overflow_sub-w1-2 c).After-twice_area-d) (w3 (goal.at.overflow_sub-w1-2 c).After-twice_area-d)
 
 pub returns : goal.returns
 unfolding weights sides_at
 returns c =
-    let h = placed (start (goal.at.returns c).After-twice_area-d) in
-    let a = (start (goal.at.returns c).After-twice_area-d).args in
+    let h = placed (goal.at.returns c).Start in
+    let a = c.args in
     let w1 = left_kept _ _ _ (own_short _ _ h) (second_short _ _ h) (third_short _ _ h) (d (goal.at.returns c).After-twice_area-d) (w2 (goal.at.returns c).After-twice_area-d) (w3 (goal.at.returns c).After-twice_area-d) in
     λ i. record { w1 = (w1 ∙ first_weight (east_of a.c) (north_of a.c) a.p) i; w2 = w2 (goal.at.returns c).After-twice_area-d i; w3 = w3 (goal.at.returns c).After-twice_area-d i; d = d (goal.at.returns c).After-twice_area-d i }

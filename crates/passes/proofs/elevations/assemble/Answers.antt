@@ -2,7 +2,6 @@ use Prim.Native.Nat.{ℕ, ◌-◌, ◌*◌, ◌≤◌}
 use mathlib.Core.Path.{◌≡◌, sym, ap, ◌∙◌}
 use native.Mathlib.Omega.{arith}
 use borrow.Author.Count.{falls}
-use borrow.Author.Rules.{zero≤}
 use lib.Dec.{lit<}
 use lib.ListN.{length}
 use mir.Syntax.{w64}
@@ -27,7 +26,7 @@ abbrev its : Start → Given
 its s = let a = s.args in given (mesh a.x.now a.y.now a.tri.now a.h.now a.kind.now) a.p a.state.now a.elevation a.winds.now
 
 fits : (l : At-loop-t) → Fits ((let a = l.args in given (mesh a.x.now a.y.now a.tri.now a.h.now a.kind.now) a.p a.state.now a.elevation a.winds.now))
-fits l = l.requires.0
+fits l = l.requires.fits
 
 long : (l : At-loop-t) → length l.loop-t.work ≡ work_runs * length l.args.x.now
 long l = ap length l.loop-t.invariant.1.0 ∙ runs_length _ _
@@ -42,12 +41,12 @@ corner c = corners_read _ _ c.loop-t-test.true c.corners_at-c.ensures
 -- the end of a turn
 turned : (t : In-loop-t) → Turned (E ((let a = t.args in given (mesh a.x.now a.y.now a.tri.now a.h.now a.kind.now) a.p a.state.now a.elevation a.winds.now)).mesh) t.loop-t.t
 turned t =
-    let fits : Fits ((let a = t.args in given (mesh a.x.now a.y.now a.tri.now a.h.now a.kind.now) a.p a.state.now a.elevation a.winds.now)) = t.requires.0 in
+    let fits : Fits ((let a = t.args in given (mesh a.x.now a.y.now a.tri.now a.h.now a.kind.now) a.p a.state.now a.elevation a.winds.now)) = t.requires.fits in
     turn t.loop-t-test.true (Fits-below {w = w64} tt (fits).shape.sized.most_triangles).fits
 
 pub loop-t-init : goal.loop-t-init
 loop-t-init c =
-    (zero≤, (cleared_room (its (goal.at.loop-t-init c).Start) _ c.requires.1.0 c.clear.ensures ∙ sum_none (its (goal.at.loop-t-init c).Start), c.clear_whole.ensures ∙ ap (λ (n : ℕ). table n (λ _. 0)) c.requires.1.1 ∙ S_none (its (goal.at.loop-t-init c).Start)))
+    (omega arith, (cleared_room (its (goal.at.loop-t-init c).Start) _ c.requires.work_len.0 c.clear.ensures ∙ sum_none (its (goal.at.loop-t-init c).Start), c.clear_whole.ensures ∙ ap (λ (n : ℕ). table n (λ _. 0)) c.requires.work_len.1 ∙ S_none (its (goal.at.loop-t-init c).Start)))
 
 pub places_at-q-requires : goal.places_at-q-requires
 places_at-q-requires c =
@@ -81,7 +80,10 @@ pub spread_area-requires : goal.spread_area-requires
 spread_area-requires c =
     let h = c.loop-t-test.true in
     let d = its_area _ (fits (goal.at.spread_area-requires c).At-loop-t) _ h (corner (goal.at.spread_area-requires c).After-corners_at-c) c.places_at-q.ensures c.sides_of-whole.ensures c.area_of.ensures in
-    (rw (sums_long (goal.at.spread_area-requires c).At-loop-t) (inside _ (fits (goal.at.spread_area-requires c).At-loop-t) _ h (corner (goal.at.spread_area-requires c).After-corners_at-c)), λ i. S_room _ (fits (goal.at.spread_area-requires c).At-loop-t) c.loop-t.t i h d c.loop-t.invariant.1.1)
+    record {
+      below = rw (sums_long (goal.at.spread_area-requires c).At-loop-t) (inside _ (fits (goal.at.spread_area-requires c).At-loop-t) _ h (corner (goal.at.spread_area-requires c).After-corners_at-c));
+      by_index = λ i. S_room _ (fits (goal.at.spread_area-requires c).At-loop-t) c.loop-t.t i h d c.loop-t.invariant.1.1;
+    }
 
 pub loop-t-preserved : goal.loop-t-preserved
 loop-t-preserved c =
@@ -118,7 +120,7 @@ pub loop-t-smaller : goal.loop-t-smaller
 loop-t-smaller c = falls _ _ c.loop-t-test.true
 
 pub shape_of-work : goal.shape_of-work
-shape_of-work c = long (goal.at.shape_of-work c).At-loop-t ∙ sym c.requires.1.0
+shape_of-work c = long (goal.at.shape_of-work c).At-loop-t ∙ sym c.requires.work_len.0
 
 pub shape_of-sums : goal.shape_of-sums
-shape_of-sums c = sums_long (goal.at.shape_of-sums c).At-loop-t ∙ sym c.requires.1.1
+shape_of-sums c = sums_long (goal.at.shape_of-sums c).At-loop-t ∙ sym c.requires.work_len.1

@@ -1,8 +1,9 @@
 use Prim.Native.Nat.{ℕ, ◌-◌, ◌≤◌, ◌<◌}
+use native.Mathlib.Omega.{arith}
 use mathlib.Core.Path.{◌≡◌, refl, sym, ◌∙◌}
 use native.Mathlib.Nat.{lt_of_lt_of_le}
 use borrow.Author.Count.{falls, below_none, below_more}
-use borrow.Author.Rules.{zero≤, scaled_Fits, below_length}
+use borrow.Author.Rules.{scaled_Fits, below_length}
 use lib.ListN.{length, get_or}
 use lib.Ieee.{Float, nan}
 use Rattle.lists.specs.Runs.{in_run}

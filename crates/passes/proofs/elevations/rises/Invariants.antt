@@ -1,8 +1,9 @@
 use Prim.Native.Nat.{ℕ, ◌-◌, ◌*◌, ◌≤◌, ◌<◌}
+use native.Mathlib.Omega.{arith}
 use mathlib.Core.Path.{◌≡◌, refl, sym, ap, ◌∙◌}
 use native.Mathlib.Nat.{le_antisymm}
 use borrow.Author.Count.{falls}
-use borrow.Author.Rules.{zero≤, scaled_Fits, below_length}
+use borrow.Author.Rules.{scaled_Fits, below_length}
 use lib.Dec.{eqb}
 use lib.ListN.{length}
 use Rattle.rows.specs.declared.Answer.{Answer}
@@ -17,6 +18,10 @@ use Rattle.passes.specs.Settle.{work_runs}
 use Rattle.passes.specs.Private.{Fits, rise_room}
 use Rattle.passes.proofs.PassLaws.{Place, place, turn, rises_to, its_rise, rise_more, rise_none, rise_all}
 use Rattle.passes.proofs.elevations.rises.Given as goal
+
+-- row 13 of z' at a node
+abbrev row_at : Given → ℕ → Answer
+row_at g i = rise_row (node g i).h (rise g i) i
 
 abbrev pub invariant-loop-i : goal.invariant-loop-i
 invariant-loop-i l =     let g = given (mesh l.x l.y l.tri l.h l.kind) l.p l.state l.elevation l.winds in

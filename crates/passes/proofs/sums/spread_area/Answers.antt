@@ -25,7 +25,8 @@ long2 c =
 free2 : (c : After-add_area-2) (i : ℕ) → get_or c.add_area-2.new.sums i 0 + c.args.d < 2 ^ 53
 free2 c i =
     let long1 : length c.add_area.new.sums ≡ length c.args.sums.now = ap length c.add_area.ensures ∙ length_added whole 0 _ _ _ in
-    rw c.add_area-2.ensures (omega (arith, added_le c.add_area.new.sums c.args.c.n2 c.args.d i (rw (long1) c.requires.below.second), free1 c i))
+    let free1 : get_or c.add_area.new.sums i 0 + 2 * c.args.d < 2 ^ 53 = rw c.add_area.ensures (omega (arith, added_le c.args.sums.now c.args.c.n1 c.args.d i c.requires.below.first, c.requires.by_index i)) in
+    rw c.add_area-2.ensures (omega (arith, added_le c.add_area.new.sums c.args.c.n2 c.args.d i (rw long1 c.requires.below.second), free1))
 
 pub add_area-requires : goal.add_area-requires
 add_area-requires c = (c.requires.below.first, omega (arith, c.requires.by_index c.args.c.n1))

@@ -36,10 +36,10 @@ returns-then-first-ne0 c =
 
 pub work_on-requires : goal.work_on-requires
 work_on-requires c =
-    let f = c.args.f.now in (
-      record { shape = c.requires.shaped; state = c.requires.next_len.0; setting = refl },
-      (c.requires.next_len.1, c.requires.next_len.2, ap length (past_first f) ∙ long_winds (N (net (goal.at.work_on-requires c).Start)) f c.requires.next_len.3),
-    )
+    let f = c.args.f.now in record {
+      fits = record { shape = c.requires.shaped; state = c.requires.next_len.0; setting = refl };
+      work_len = (c.requires.next_len.1, c.requires.next_len.2, ap length (past_first f) ∙ long_winds (N (net (goal.at.work_on-requires c).Start)) f c.requires.next_len.3);
+    }
 
 pub returns : goal.returns
 unfolding later_rows

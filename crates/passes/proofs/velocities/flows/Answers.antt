@@ -1,8 +1,8 @@
 use Prim.Native.Nat.{ℕ, ◌-◌, ◌*◌, ◌≤◌}
+use native.Mathlib.Omega.{arith}
 use mathlib.Core.Path.{◌≡◌, refl, sym, ap, ◌∙◌}
 use native.Mathlib.Nat.{le_antisymm}
 use borrow.Author.Count.{falls}
-use borrow.Author.Rules.{zero≤}
 use lib.Dec.{T, ltb, eqb}
 use lib.ListN.{length, length-set}
 use Rattle.rows.specs.declared.Answer.{Answer}
@@ -30,14 +30,14 @@ abbrev here : At-loop-i → Given
 here l = (let a = l.args in given (mesh a.x.now a.y.now a.tri.now a.h.now a.kind.now) a.p a.state.now a.elevation a.winds.now)
 
 fits : (l : At-loop-i) → Fits (here l)
-fits l = l.requires.0
+fits l = l.requires.fits
 
 -- the room's length, so that each place of its runs is within it
 long : (l : At-loop-i) → length l.loop-i.work ≡ work_runs * length l.args.x.now
 long l = ap length l.loop-i.invariant.1.0 ∙ runs_length _ _
 
 same : (l : At-loop-i) → length l.loop-i.work ≡ length l.args.work.now
-same l = long l ∙ sym (ap length l.requires.1.0 ∙ runs_length _ _)
+same l = long l ∙ sym (ap length l.requires.work_value.0 ∙ runs_length _ _)
 
 -- after the last turn every U' and V' stands in the room
 done : (c : After-loop-i) → c.loop-i.i ≡ count (((let a = c.args in given (mesh a.x.now a.y.now a.tri.now a.h.now a.kind.now) a.p a.state.now a.elevation a.winds.now)))
@@ -50,17 +50,17 @@ all c = let g = ((let a = c.args in given (mesh a.x.now a.y.now a.tri.now a.h.no
 at : (t : In-loop-i) (k : ℕ) → T (ltb k work_runs) → Place k (length t.args.x.now) t.loop-i.i (length t.loop-i.work)
 at t k h =
     let long : length t.loop-i.work ≡ work_runs * length t.args.x.now = ap length t.loop-i.invariant.1.0 ∙ runs_length _ _ in
-    let same : length t.loop-i.work ≡ length t.args.work.now = long t ∙ sym (ap length t.requires.1.0 ∙ runs_length _ _) in
-    place k work_runs h t.loop-i-test.true (long) (same) t.well_formed.0.1
+    let same : length t.loop-i.work ≡ length t.args.work.now = long ∙ sym (ap length t.requires.work_value.0 ∙ runs_length _ _) in
+    place k work_runs h t.loop-i-test.true long same t.well_formed.0.1
 
 pub loop-i-preserved : goal.loop-i-preserved
 loop-i-preserved c =
     let g = here (goal.at.loop-i-preserved c).At-loop-i in
     let i = c.loop-i.i in
     let h = c.loop-i-test.true in
-    let r = its_flow g (fits (goal.at.loop-i-preserved c).At-loop-i) i h c.requires.1.1 c.loop-i.invariant.1.0 c.flow_at-v.ensures in
+    let r = its_flow g (fits (goal.at.loop-i-preserved c).At-loop-i) i h c.requires.work_value.1 c.loop-i.invariant.1.0 c.flow_at-v.ensures in
     let asked = c.flow_row.ensures ∙ (λ j. flow_row (r j) i) in
-    ((turn h c.well_formed.1.1.0.0).next, (flow_more g (fits (goal.at.loop-i-preserved c).At-loop-i) i h c.loop-i.invariant.1.0 r, all_more (row_at g) i c.loop-i.invariant.1.1 (ap (λ (a : Answer). eqb c.number 0) asked)))
+    (omega arith, (flow_more g (fits (goal.at.loop-i-preserved c).At-loop-i) i h c.loop-i.invariant.1.0 r, all_more (row_at g) i c.loop-i.invariant.1.1 (ap (λ (a : Answer). eqb a.number 0) asked)))
 
 pub returns-then-all : goal.returns-then-all
 returns-then-all c =
@@ -70,7 +70,7 @@ pub returns-else-all : goal.returns-else-all
 returns-else-all c = (c.refused_flow.ensures (here (goal.at.returns-else-all c).At-loop-i) (all (goal.at.returns-else-all c).After-loop-i) refl, all (goal.at.returns-else-all c).After-loop-i)
 
 pub loop-i-init : goal.loop-i-init
-loop-i-init c = (zero≤, (c.requires.1.0 ∙ flow_none (its (goal.at.loop-i-init c).Start), all_none _))
+loop-i-init c = (omega arith, (c.requires.work_value.0 ∙ flow_none (its (goal.at.loop-i-init c).Start), all_none _))
 
 pub overflow_mul-z : goal.overflow_mul-z
 overflow_mul-z c = (at (goal.at.overflow_mul-z c).In-loop-i 0 tt).run
@@ -156,17 +156,10 @@ offset_bounds-work-n-in-loop-i-6 c = (at (goal.at.offset_bounds-work-n-in-loop-i
 pub bounds-work-n-in-loop-i-6 : goal.bounds-work-n-in-loop-i-6
 bounds-work-n-in-loop-i-6 c = simp length-set (at (goal.at.bounds-work-n-in-loop-i-6 c).In-loop-i 2 tt).within
 
-pub overflow_step-i : goal.overflow_step-i
-overflow_step-i c = (turn c.loop-i-test.true c.good.1.1.0.0).fits
-
-pub loop-i-smaller : goal.loop-i-smaller
-loop-i-smaller c = falls _ _ c.loop-i-test.true
-
 pub refused_flow-requires : goal.refused_flow-requires
 refused_flow-requires c = long (goal.at.refused_flow-requires c).At-loop-i
 
-pub shape_of-work-then-all : goal.shape_of-work-then-all
-shape_of-work-then-all c = same (goal.at.shape_of-work-then-all c).At-loop-i
 
-pub shape_of-work-else-all : goal.shape_of-work-else-all
-shape_of-work-else-all c = same (goal.at.shape_of-work-else-all c).At-loop-i
+pub flow_at-v-requires-clause-kind_len : goal.flow_at-v-requires-clause-kind_len
+flow_at-v-requires-clause-kind_len c =
+    ((fits (goal.at.flow_at-v-requires-clause-kind_len c).At-loop-i).shape.sized.kind, c.requires.work_value.2, ap length c.requires.work_value.1 ∙ length_table _ _)

@@ -1,8 +1,8 @@
 use Prim.Native.Nat.{ℕ, ◌-◌, ◌*◌, ◌≤◌}
+use native.Mathlib.Omega.{arith}
 use mathlib.Core.Path.{◌≡◌, refl, sym, ap, ◌∙◌}
 use native.Mathlib.Nat.{le_antisymm}
 use borrow.Author.Count.{falls}
-use borrow.Author.Rules.{zero≤}
 use lib.Dec.{T, ltb, eqb}
 use lib.ListN.{length, length-set}
 use Rattle.rows.specs.declared.Answer.{Answer}
@@ -17,6 +17,10 @@ use Rattle.passes.specs.Settle.{work_runs}
 use Rattle.passes.specs.Private.{Fits, flow_room}
 use Rattle.passes.proofs.PassLaws.{Place, place, turn, flows_to, its_flow, flow_more, flow_none, flow_all}
 use Rattle.passes.proofs.velocities.flows.Given as goal
+
+-- row 13 of U' and V' at a node
+abbrev row_at : Given → ℕ → Answer
+row_at g i = flow_row (flow_at g i) i
 
 abbrev pub invariant-loop-i : goal.invariant-loop-i
 invariant-loop-i l =     let g = given (mesh l.x l.y l.tri l.h l.kind) l.p l.state l.elevation l.winds in

@@ -1,8 +1,8 @@
 use Prim.Native.Nat.{ℕ, ◌-◌, ◌≤◌, ◌<◌}
+use native.Mathlib.Omega.{arith}
 use mathlib.Core.Path.{◌≡◌, refl, sym, ◌∙◌}
 use native.Mathlib.Nat.{lt_of_lt_of_le}
 use borrow.Author.Count.{falls, below_none, below_more}
-use borrow.Author.Rules.{zero≤}
 use lib.Dec.{T, ltb}
 use lib.ListN.{length}
 use Rattle.lists.specs.Runs.{in_run}
