@@ -1,5 +1,6 @@
 // The state and a forcing: the mesh's rows and row 10, and row 12, in the document's order.
 #![tactic(auto)]
+
 pub(crate) mod forcing;
 
 ghost use Rattle.std.specs.Prelude.{◌≡◌, ◌*◌, ◌<◌, length};

@@ -1,5 +1,6 @@
 // Numbers as they cross in bytes, big-endian: read and written, and whole slices decoded.
 #![tactic(auto)]
+
 ghost use Rattle.std.specs.Prelude.{◌≡◌, ◌⊎◌, ◌+◌, ◌<◌, ◌≤◌, ◌^◌, leb, length};
 ghost use Rattle.lists.specs.Table.{copied};
 ghost use Rattle.crossing.specs.Crossing.{number_at, written_at, signed, unsigned, ints_of, words_of, floats_of};

@@ -1,9 +1,7 @@
-use Prim.Native.Nat.{ℕ, ◌-◌, ◌≤◌}
+use Prim.Native.Nat.{ℕ}
 use mathlib.Core.Path.{◌≡◌, ap, ◌∙◌}
 use mathlib.Core.Bool.{Bool}
 use native.Mathlib.Omega.{arith}
-use borrow.Author.Rules.{rules}
-use lib.Dec.{eqb}
 use Rattle.rows.specs.Scan.{scan}
 use Rattle.rows.proofs.ScanLaws.{all_none, all_more, all_accept, row_accepts}
 use Rattle.limits.specs.Limits.{in_bounds}

@@ -1,13 +1,8 @@
 use Prim.Native.Nat.{ℕ, ◌-◌, ◌≤◌, ◌<◌}
-use mathlib.Core.Path.{◌≡◌, sym, ap, ◌∙◌}
-use mathlib.Core.Bool.{Bool, true}
-use native.Mathlib.Omega.{arith}
-use borrow.Author.Count.{below_none, below_more}
-use borrow.Author.Rules.{rules}
-use borrow.Author.Tests.{not-true, not-false}
-use Rattle.rows.proofs.ScanLaws.{row_hit, row_none}
+use mathlib.Core.Path.{◌≡◌}
+use mathlib.Core.Bool.{true}
 use Rattle.limits.specs.Limits.{in_bounds}
-use Rattle.bounds.specs.State.{node_of, row10}
+use Rattle.bounds.specs.State.{node_of}
 use Rattle.bounds.proofs.refused_node.Given as goal
 
 abbrev pub invariant-loop-i : goal.invariant-loop-i

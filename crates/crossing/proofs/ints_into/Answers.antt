@@ -1,11 +1,9 @@
-use Prim.Native.Nat.{◌≤◌, ◌-◌}
 use mathlib.Core.Path.{◌≡◌, sym, ap, ◌∙◌}
 use native.Mathlib.Omega.{arith}
 use lib.ListN.{length}
-use Rattle.lists.specs.Private.{up_to}
 use Rattle.lists.proofs.TableLaws.{up_none, fill_more, fill_length}
 use Rattle.crossing.specs.Crossing.{signed}
-use Rattle.crossing.proofs.CrossLaws.{signed_kept, element, filled_whole}
+use Rattle.crossing.proofs.CrossLaws.{signed_kept, filled_whole}
 use Rattle.crossing.proofs.ints_into.Goals as goal
 use Rattle.crossing.proofs.ints_into.Goals.{At-loop-i}
 

@@ -1,11 +1,8 @@
 use Prim.Native.Nat.{◌≤◌, ◌-◌}
-use mathlib.Core.Path.{◌≡◌, sym, ap, ◌∙◌}
-use native.Mathlib.Omega.{arith}
-use lib.ListN.{length}
+use mathlib.Core.Path.{◌≡◌}
 use Rattle.lists.specs.Private.{up_to}
-use Rattle.lists.proofs.TableLaws.{up_none, fill_more, fill_length}
 use Rattle.crossing.specs.Crossing.{signed}
-use Rattle.crossing.proofs.CrossLaws.{signed_kept, element, filled_whole}
+use Rattle.crossing.proofs.CrossLaws.{element}
 use Rattle.crossing.proofs.ints_into.Given as goal
 
 abbrev pub invariant-loop-i : goal.invariant-loop-i

@@ -1,10 +1,9 @@
-use Prim.Native.Nat.{suc, ◌+◌, ◌-◌, ◌≤◌}
+use Prim.Native.Nat.{suc, ◌-◌}
 use mathlib.Core.Path.{◌≡◌, refl, sym, ◌∙◌}
 use native.Mathlib.Omega.{arith}
 use borrow.Author.Tests.{leb-true}
-use lib.ListN.{length, length-set}
+use lib.ListN.{length-set}
 use Rattle.frames.specs.Bytes.{field}
-use Rattle.lines.specs.Building.{laid}
 use Rattle.lines.proofs.LaidLaws.{laid_none}
 use Rattle.crossing.specs.Crossing.{written_at}
 use Rattle.crossing.proofs.CrossLaws.{byte_turn}

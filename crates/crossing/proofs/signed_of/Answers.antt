@@ -1,4 +1,3 @@
-use borrow.Author.Rules.{rules}
 use borrow.Author.Tests.{lt-ltb}
 use mir.Facts.{sfits_widen}
 use Rattle.crossing.specs.Crossing.{signed}

@@ -1,7 +1,6 @@
-use Prim.Native.Nat.{◌≤◌, ◌<◌, ◌-◌, ◌^◌}
+use Prim.Native.Nat.{◌<◌, ◌^◌}
 use mathlib.Core.Path.{◌≡◌, refl, sym, ◌∙◌}
 use native.Mathlib.Omega.{arith}
-use lib.ListN.{take, drop}
 use Rattle.frames.specs.Bytes.{number}
 use Rattle.frames.proofs.ByteLaws.{number_room, number_grows, number_more}
 use Rattle.crossing.proofs.CrossLaws.{number_there}

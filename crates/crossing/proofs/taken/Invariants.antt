@@ -1,10 +1,7 @@
 use Prim.Native.Nat.{◌≤◌, ◌<◌, ◌-◌, ◌^◌}
-use mathlib.Core.Path.{◌≡◌, refl, sym, ◌∙◌}
-use native.Mathlib.Omega.{arith}
+use mathlib.Core.Path.{◌≡◌}
 use lib.ListN.{take, drop}
 use Rattle.frames.specs.Bytes.{number}
-use Rattle.frames.proofs.ByteLaws.{number_room, number_grows, number_more}
-use Rattle.crossing.proofs.CrossLaws.{number_there}
 use Rattle.crossing.proofs.taken.Given as goal
 
 abbrev pub invariant-loop-k : goal.invariant-loop-k

@@ -1,10 +1,8 @@
-use Prim.Native.Nat.{◌≤◌, ◌-◌}
 use mathlib.Core.Path.{◌≡◌, sym, ◌∙◌}
 use native.Mathlib.Omega.{arith}
 use lib.ListN.{length}
-use Rattle.lists.specs.Private.{up_to}
 use Rattle.lists.proofs.TableLaws.{up_none, fill_more, fill_length}
-use Rattle.crossing.proofs.CrossLaws.{element, filled_whole}
+use Rattle.crossing.proofs.CrossLaws.{filled_whole}
 use Rattle.crossing.proofs.words_into.Goals as goal
 use Rattle.crossing.proofs.words_into.Goals.{At-loop-i}
 
