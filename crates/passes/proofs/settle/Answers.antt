@@ -43,26 +43,30 @@ long c =
 
 pub work_out-requires : goal.work_out-requires
 work_out-requires c =
+    let w = goal.at.work_out-requires c in
     let a = c.args in
-    let ok = passed (goal.at.work_out-requires c).Else-first-ne0 in
+    let ok = passed w.Else-first-ne0 in
     let f = a.f.now in record {
-      fits = fits (net (goal.at.work_out-requires c).Start) a.p a.state.now f a.also (lent (goal.at.work_out-requires c).Start) ok (winds (goal.at.work_out-requires c).Start);
+      fits = fits (net w.Start) a.p a.state.now f a.also (lent w.Start) ok (winds w.Start);
       next_len = (
-        next_long (net (goal.at.work_out-requires c).Start) a.p a.state.now f a.also (lent (goal.at.work_out-requires c).Start) ok,
-        work_long (net (goal.at.work_out-requires c).Start) a.p a.state.now f a.also (lent (goal.at.work_out-requires c).Start) ok,
-        sums_long (net (goal.at.work_out-requires c).Start) a.p a.state.now f a.also (lent (goal.at.work_out-requires c).Start) ok,
-        ap length (past_first f) ∙ long_winds (N (net (goal.at.work_out-requires c).Start)) f (long (goal.at.work_out-requires c).Else-first-ne0),
+        next_long (net w.Start) a.p a.state.now f a.also (lent w.Start) ok,
+        work_long (net w.Start) a.p a.state.now f a.also (lent w.Start) ok,
+        sums_long (net w.Start) a.p a.state.now f a.also (lent w.Start) ok,
+        ap length (past_first f) ∙ long_winds (N (net w.Start)) f (long w.Else-first-ne0),
       );
     }
 
 pub returns : goal.returns
 returns c =
+    let w = goal.at.returns c in
     let a = c.args in
     let e = c.work_out.ensures in
-    worked (net (goal.at.returns c).Start) a.p a.state.now a.f.now a.also (lent (goal.at.returns c).Start) (passed (goal.at.returns c).Else-first-ne0) (past_first a.f.now) e.value.0 e.value.1 e.work_after.0 e.work_after.1
+    worked (net w.Start) a.p a.state.now a.f.now a.also (lent w.Start) (passed w.Else-first-ne0) (past_first a.f.now) e.value.0 e.value.1 e.work_after.0 e.work_after.1
 
 pub returns-then-first-ne0 : goal.returns-then-first-ne0
-returns-then-first-ne0 c = stopped (net (goal.at.returns-then-first-ne0 c).Start) c.args.p c.args.state.now c.args.f.now c.args.also (lent (goal.at.returns-then-first-ne0 c).Start) (answered (goal.at.returns-then-first-ne0 c).After-forced_rows-first) c.if-first-ne0.true
+returns-then-first-ne0 c =
+    let w = goal.at.returns-then-first-ne0 c in
+    stopped (net w.Start) c.args.p c.args.state.now c.args.f.now c.args.also (lent w.Start) (answered w.After-forced_rows-first) c.if-first-ne0.true
 
 pub bounds-f-0 : goal.bounds-f-0
 bounds-f-0 c = omega (arith, long (goal.at.bounds-f-0 c).Else-first-ne0)
@@ -75,4 +79,3 @@ slice_bounds-work_out-start c = omega (arith, long (goal.at.slice_bounds-work_ou
 
 pub slice_bounds-work_out-end : goal.slice_bounds-work_out-end
 slice_bounds-work_out-end c = omega (arith, long (goal.at.slice_bounds-work_out-end c).Else-first-ne0)
-

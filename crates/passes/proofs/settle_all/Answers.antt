@@ -1,10 +1,9 @@
-use Prim.Native.Nat.{ℕ, ◌+◌, ◌-◌, ◌*◌, ◌/◌, ◌<◌, ◌≤◌}
+use Prim.Native.Nat.{ℕ, ◌-◌, ◌*◌, ◌/◌, ◌<◌, ◌≤◌}
 use mathlib.Core.Path.{◌≡◌, sym, ap, ◌∙◌}
 use mathlib.Core.Bool.{not, true}
 use mathlib.Core.List.{List, ◌++◌}
 use native.Mathlib.Nat.{zero-mul}
 use native.Mathlib.Omega.{arith}
-use borrow.Author.Rules.{rules}
 use borrow.Author.Tests.{eqb-false, not-true}
 use lib.Dec.{eqb}
 use lib.ListN.{length, take, drop}
@@ -14,7 +13,7 @@ use Rattle.rows.specs.declared.Answer.{Answer}
 use Rattle.lists.specs.Table.{table, zeros}
 use Rattle.rows.proofs.ScanLaws.{same_number, row_passed}
 use Rattle.limits.specs.Limits.{row11}
-use Rattle.mesh.specs.Lent.{Mesh, mesh, N}
+use Rattle.mesh.specs.Lent.{Mesh, mesh}
 use Rattle.bounds.specs.Forcing.{forcing_length, forcing_at, list_rows}
 use Rattle.bounds.proofs.ForcingLaws.{AcceptedForced, accepted_forced}
 use Rattle.bounds.proofs.ListLaws.{forcing_within}
@@ -106,10 +105,11 @@ settles v ok =
 
 pub returns-then-first-ne0 : goal.returns-then-first-ne0
 returns-then-first-ne0 c =
+    let w = goal.at.returns-then-first-ne0 c in
     let a = c.args in
     let n = length a.x.now in
-    let v = (goal.at.returns-then-first-ne0 c).After-settle-first in
-    let ok = passed (goal.at.returns-then-first-ne0 c).Else-asked-ne0 in
+    let v = w.After-settle-first in
+    let ok = passed w.Else-asked-ne0 in
     let same : left v ≡ its v ok = settles v ok in
     ap (λ (o : Progress). turns o c.settle-first.new.next (c.settle-first.new.work ++ drop (work_runs * n) a.work.now) c.settle-first.new.sums) c.unmoved-then-first-ne0.ensures
     ∙ (λ i. with_added n (lent2 v) (unmoved a.step (same i).answer (same i).rooms))
@@ -143,10 +143,11 @@ can_count step e fits =
 
 pub rest_of-requires : goal.rest_of-requires
 rest_of-requires c =
+    let w = goal.at.rest_of-requires c in
     let a = c.args in
     let h = c.if-first-ne0.false in
-    let e = (goal.at.rest_of-requires c).Else-asked-ne0 in
-    let v = (goal.at.rest_of-requires c).After-settle-first in
+    let e = w.Else-asked-ne0 in
+    let v = w.After-settle-first in
     let ok = passed e in
     let rooms = list_rooms (net2 v) a.p a.state.now a.step a.list.now (lent2 v) ok in
     let all = rows v ok h in record {
@@ -157,9 +158,10 @@ rest_of-requires c =
 
 pub returns : goal.returns
 returns c =
+    let w = goal.at.returns c in
     let a = c.args in
-    let e = (goal.at.returns c).Else-asked-ne0 in
-    let v = (goal.at.returns c).After-settle-first in
+    let e = w.Else-asked-ne0 in
+    let v = w.After-settle-first in
     let ok = passed e in
     let r = c.rest_of.result in
     let made = c.rest_of.ensures in

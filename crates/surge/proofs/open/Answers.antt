@@ -22,6 +22,6 @@ pub returns : goal.returns
 returns c =
     let its = answered (goal.at.returns c).After-open_rows-answer in
     elim c.if-answer-eq0.branch [
-      then-answer-eq0 w ↦ open_accepted _ _ _ _ _ its c.cold.ensures w.if-answer-eq0.true _ (w.state-is ∙ w.clear.ensures)
+      | then-answer-eq0 w ↦ open_accepted _ _ _ _ _ its c.cold.ensures w.if-answer-eq0.true _ (w.state-is ∙ w.clear.ensures)
       | else-answer-eq0 w ↦ open_refused _ _ _ _ _ its c.cold.ensures w.if-answer-eq0.false _ w.state-is
     ]

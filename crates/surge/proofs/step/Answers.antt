@@ -1,6 +1,5 @@
 use mathlib.Core.Path.{◌≡◌, sym, ap, ◌∙◌}
 use native.Mathlib.Omega.{arith}
-use borrow.Author.Rules.{rules}
 use Rattle.rows.specs.declared.Answer.{Answer}
 use Rattle.limits.specs.Limits.{row11}
 use Rattle.mesh.specs.Lent.{Mesh, mesh}

@@ -1,8 +1,8 @@
-use Prim.Native.Nat.{ℕ, ◌-◌, ◌≤◌, ◌<◌}
+use Prim.Native.Nat.{ℕ, ◌<◌}
 use native.Mathlib.Omega.{arith}
-use mathlib.Core.Path.{◌≡◌, refl, sym, ◌∙◌}
+use mathlib.Core.Path.{refl, sym, ◌∙◌}
 use native.Mathlib.Nat.{lt_of_lt_of_le}
-use borrow.Author.Count.{falls, below_none, below_more}
+use borrow.Author.Count.{below_none, below_more}
 use borrow.Author.Rules.{scaled_Fits, below_length}
 use lib.ListN.{length, get_or}
 use lib.Ieee.{Float, nan}
@@ -61,9 +61,3 @@ offset_bounds-work-n c = (at (goal.at.offset_bounds-work-n c).In-loop-i).bytes
 
 pub bounds-work-n : goal.bounds-work-n
 bounds-work-n c = (at (goal.at.bounds-work-n c).In-loop-i).within
-
-pub overflow_step-i : goal.overflow_step-i
-overflow_step-i c = (turned (goal.at.overflow_step-i c).In-loop-i).fits
-
-pub loop-i-smaller : goal.loop-i-smaller
-loop-i-smaller c = falls _ _ c.loop-i-test.true

@@ -5,7 +5,6 @@ use lib.ListN.{length, get_or}
 use Rattle.lists.specs.Gather.{whole}
 use Rattle.lists.specs.Private.{spread}
 use Rattle.lists.proofs.GatherLaws.{length_added, added_le}
-use borrow.Author.Rules.{rules}
 use Rattle.passes.proofs.sums.spread_area.Goals as goal
 use Rattle.passes.proofs.sums.spread_area.Goals.{After-add_area, After-add_area-2}
 
@@ -33,11 +32,13 @@ add_area-requires c = (c.requires.below.first, omega (arith, c.requires.by_index
 
 pub add_area-requires-2 : goal.add_area-requires-2
 add_area-requires-2 c =
-    (rw (long1 (goal.at.add_area-requires-2 c).After-add_area) c.requires.below.second, omega (arith, free1 (goal.at.add_area-requires-2 c).After-add_area c.args.c.n2))
+    let w = goal.at.add_area-requires-2 c in
+    (rw (long1 w.After-add_area) c.requires.below.second, omega (arith, free1 w.After-add_area c.args.c.n2))
 
 pub add_area-requires-3 : goal.add_area-requires-3
 add_area-requires-3 c =
-    (rw (long2 (goal.at.add_area-requires-3 c).After-add_area-2) c.requires.below.third, free2 (goal.at.add_area-requires-3 c).After-add_area-2 c.args.c.n3)
+    let w = goal.at.add_area-requires-3 c in
+    (rw (long2 w.After-add_area-2) c.requires.below.third, free2 w.After-add_area-2 c.args.c.n3)
 
 pub returns : goal.returns
 unfolding spread

@@ -1,24 +1,20 @@
-use Prim.Native.Nat.{◌-◌, ◌*◌, ◌≤◌}
+use Prim.Native.Nat.{◌*◌}
 use native.Mathlib.Omega.{arith}
-use mathlib.Core.Path.{◌≡◌, refl, sym, ap, ◌∙◌}
+use mathlib.Core.Path.{◌≡◌, ap, ◌∙◌}
 use native.Mathlib.Nat.{le_antisymm}
-use borrow.Author.Count.{falls}
 use lib.Dec.{lit<}
 use lib.ListN.{length}
-use mir.Syntax.{w64}
-use mir.Facts.{Fits-below}
 use lib.Ieee.{Float, nan}
 use Rattle.lists.specs.Gather.{Three, gathered}
 use Rattle.lists.specs.Private.{Below, past, spread}
 use Rattle.lists.proofs.RunLaws.{runs_length}
-use Rattle.quantities.specs.declared.Parameters.{Parameters}
 use Rattle.geometry.specs.Geometry.{nodes_of}
 use Rattle.mesh.specs.Lent.{mesh, E}
 use Rattle.mesh.proofs.SideLaws.{corners_read}
 use Rattle.passes.specs.Equations.{Given, given, corners_of, floating}
 use Rattle.passes.specs.Settle.{work_runs}
-use Rattle.passes.specs.Private.{Fits, rise_room}
-use Rattle.passes.proofs.PassLaws.{Turned, turn, run_fits, slopes_to, in_run_lem, inside, its_near, its_floats, slope_more}
+use Rattle.passes.specs.Private.{Fits}
+use Rattle.passes.proofs.PassLaws.{run_fits, slopes_to, in_run_lem, inside, its_near, its_floats, slope_more}
 use Rattle.passes.proofs.velocities.slopes.Goals as goal
 use Rattle.passes.proofs.velocities.slopes.Goals.{After-corners_at-c, At-loop-t, In-loop-t, Start}
 
@@ -49,20 +45,22 @@ loop-t-init c = (omega arith, c.requires.work_value)
 
 pub floats_of-s-requires : goal.floats_of-s-requires
 floats_of-s-requires c =
-    its_near _ (fits (goal.at.floats_of-s-requires c).At-loop-t) _ c.loop-t-test.true (corner (goal.at.floats_of-s-requires c).After-corners_at-c) c.places_at.ensures c.sides_of.ensures
+    let w = goal.at.floats_of-s-requires c in
+    its_near _ (fits w.At-loop-t) _ c.loop-t-test.true (corner w.After-corners_at-c) c.places_at.ensures c.sides_of.ensures
 
 pub loop-t-preserved : goal.loop-t-preserved
 loop-t-preserved c =
+    let w = goal.at.loop-t-preserved c in
     let h = c.loop-t-test.true in
     let n = length c.args.x.now in
     let at = nodes_of c.corners_at-c.result in
-    let g = here (goal.at.loop-t-preserved c).At-loop-t in
-    let z = fits (goal.at.loop-t-preserved c).At-loop-t in
-    let its = corner (goal.at.loop-t-preserved c).After-corners_at-c in (
+    let g = here w.At-loop-t in
+    let z = fits w.At-loop-t in
+    let its = corner w.After-corners_at-c in (
       omega arith,
       c.spread-in-loop-t.ensures
-      ∙ (λ i. spread floating nan (past (2 * n) at) (c.alike-in-loop-t.ensures i) ((c.spread.ensures ∙ ap (λ (a : Three Float). spread floating nan (past (1 * n) at) a c.loop-t.work) c.alike.ensures) i))
-      ∙ slope_more g z _ h its c.loop-t.invariant.1 (its_floats g z _ h its c.places_at.ensures c.sides_of.ensures c.floats_of-s.ensures) c.slope_of-v.ensures,
+          ∙ (λ i. spread floating nan (past (2 * n) at) (c.alike-in-loop-t.ensures i) ((c.spread.ensures ∙ ap (λ (a : Three Float). spread floating nan (past (1 * n) at) a c.loop-t.work) c.alike.ensures) i))
+          ∙ slope_more g z _ h its c.loop-t.invariant.1 (its_floats g z _ h its c.places_at.ensures c.sides_of.ensures c.floats_of-s.ensures) c.slope_of-v.ensures,
     )
 
 pub returns : goal.returns
@@ -72,20 +70,27 @@ returns c =
     c.loop-t.invariant.1 ∙ ap (slopes_to g) end
 
 pub places_at-requires : goal.places_at-requires
-places_at-requires c = ((fits (goal.at.places_at-requires c).At-loop-t).shape.sized.y, below (goal.at.places_at-requires c).After-corners_at-c)
+places_at-requires c =
+    let w = goal.at.places_at-requires c in
+    ((fits w.At-loop-t).shape.sized.y, below w.After-corners_at-c)
 
 pub slope_of-v-requires : goal.slope_of-v-requires
-slope_of-v-requires c = (below (goal.at.slope_of-v-requires c).After-corners_at-c, (fits (goal.at.slope_of-v-requires c).At-loop-t).state, long (goal.at.slope_of-v-requires c).At-loop-t)
+slope_of-v-requires c =
+    let w = goal.at.slope_of-v-requires c in
+    (below w.After-corners_at-c, (fits w.At-loop-t).state, long w.At-loop-t)
 
 pub overflow_mul-n : goal.overflow_mul-n
 overflow_mul-n c = run_fits 1 tt (fits (goal.at.overflow_mul-n c).At-loop-t).shape.sized.most_nodes
 
 pub spread-requires : goal.spread-requires
-spread-requires c = rw (long (goal.at.spread-requires c).At-loop-t) (in_run_lem 1 work_runs (lit< tt) (below (goal.at.spread-requires c).After-corners_at-c))
+spread-requires c =
+    let w = goal.at.spread-requires c in
+    rw (long w.At-loop-t) (in_run_lem 1 work_runs (lit< tt) (below w.After-corners_at-c))
 
 pub spread-requires-in-loop-t : goal.spread-requires-in-loop-t
 spread-requires-in-loop-t c =
-    rw (c.spread.auto.work ∙ long (goal.at.spread-requires-in-loop-t c).At-loop-t) (in_run_lem 2 work_runs (lit< tt) (below (goal.at.spread-requires-in-loop-t c).After-corners_at-c))
+    let w = goal.at.spread-requires-in-loop-t c in
+    rw (c.spread.auto.work ∙ long w.At-loop-t) (in_run_lem 2 work_runs (lit< tt) (below w.After-corners_at-c))
 
 pub overflow_mul-n-in-loop-t : goal.overflow_mul-n-in-loop-t
 overflow_mul-n-in-loop-t c = run_fits 2 tt (fits (goal.at.overflow_mul-n-in-loop-t c).At-loop-t).shape.sized.most_nodes

@@ -1,24 +1,8 @@
-use Prim.Native.Nat.{◌-◌, ◌*◌, ◌≤◌}
-use native.Mathlib.Omega.{arith}
-use mathlib.Core.Path.{◌≡◌, refl, sym, ap, ◌∙◌}
-use native.Mathlib.Nat.{le_antisymm}
-use borrow.Author.Count.{falls}
-use lib.Dec.{lit<}
-use lib.ListN.{length}
-use mir.Syntax.{w64}
-use mir.Facts.{Fits-below}
-use lib.Ieee.{Float, nan}
-use Rattle.lists.specs.Gather.{Three, gathered}
-use Rattle.lists.specs.Private.{Below, past, spread}
-use Rattle.lists.proofs.RunLaws.{runs_length}
-use Rattle.quantities.specs.declared.Parameters.{Parameters}
-use Rattle.geometry.specs.Geometry.{nodes_of}
-use Rattle.mesh.specs.Lent.{mesh, E}
-use Rattle.mesh.proofs.SideLaws.{corners_read}
-use Rattle.passes.specs.Equations.{Given, given, corners_of, floating}
-use Rattle.passes.specs.Settle.{work_runs}
-use Rattle.passes.specs.Private.{Fits, rise_room}
-use Rattle.passes.proofs.PassLaws.{Turned, turn, run_fits, slopes_to, in_run_lem, inside, its_near, its_floats, slope_more}
+use Prim.Native.Nat.{◌≤◌}
+use mathlib.Core.Path.{◌≡◌}
+use Rattle.mesh.specs.Lent.{mesh}
+use Rattle.passes.specs.Equations.{given}
+use Rattle.passes.proofs.PassLaws.{slopes_to}
 use Rattle.passes.proofs.velocities.slopes.Given as goal
 
 abbrev pub invariant-loop-t : goal.invariant-loop-t

@@ -1,7 +1,4 @@
-use mathlib.Core.Path.{◌∙◌}
 use Rattle.rows.proofs.ScanLaws.{same_number, stops, goes}
-use Rattle.mesh.specs.Lent.{mesh}
-use Rattle.passes.specs.Equations.{Given, given}
 use Rattle.passes.specs.Row13.{row13}
 use Rattle.passes.proofs.working.solve.Goals as goal
 
@@ -25,4 +22,3 @@ rises-rise-requires c = record { fits = c.requires.fits; work_value = c.assemble
 
 pub slopes-requires : goal.slopes-requires
 slopes-requires c = record { fits = c.requires.fits; work_value = c.rises-rise.ensures.1 }
-

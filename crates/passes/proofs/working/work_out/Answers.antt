@@ -1,9 +1,7 @@
 use Prim.Native.Nat.{ℕ}
 use mathlib.Core.Path.{sym, ap, ◌∙◌}
 use mathlib.Core.Bool.{Bool, cond}
-use borrow.Author.Rules.{rules}
 use borrow.Author.Tests.{eq-eqb, ne_eqb}
-use lib.ListN.{length}
 use Rattle.lists.specs.Table.{table, zeros}
 use Rattle.mesh.specs.Lent.{mesh}
 use Rattle.passes.specs.Equations.{Given, given, next_state}
@@ -20,7 +18,7 @@ returns c =
       value = (
         c.solve-answer.ensures.0,
         elim c.if-answer-eq0.branch [
-          then-answer-eq0 w ↦ next_state_lem g (c.solve-answer.ensures.1 w.if-answer-eq0.true) (w.next-is ∙ w.publish.ensures) ∙ sym (ap (λ (b : Bool). cond b (next_state g) c.args.next.now) (eq-eqb _ _ w.if-answer-eq0.true))
+          | then-answer-eq0 w ↦ next_state_lem g (c.solve-answer.ensures.1 w.if-answer-eq0.true) (w.next-is ∙ w.publish.ensures) ∙ sym (ap (λ (b : Bool). cond b (next_state g) c.args.next.now) (eq-eqb _ _ w.if-answer-eq0.true))
           | else-answer-eq0 w ↦ w.next-is ∙ sym (ap (λ (b : Bool). cond b (next_state g) c.args.next.now) (ne_eqb _ _ w.if-answer-eq0.false))
         ],
       );
