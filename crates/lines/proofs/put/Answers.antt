@@ -1,9 +1,9 @@
 use Prim.Native.Nat.{◌≤◌}
-use mathlib.Core.Path.{◌≡◌, refl, sym, ◌∙◌}
+use mathlib.Core.Path.{◌≡◌, sym, ◌∙◌}
 use native.Mathlib.Numerals.{add-one}
 use native.Mathlib.Omega.{arith}
 use borrow.Author.Rules.{rules}
-use lib.ListN.{length, take, length-set}
+use lib.ListN.{length, take}
 use lib.Seq.{paste-zero, paste-suc, take_all, length-take-le}
 use Rattle.lines.specs.Building.{longest, written, laid}
 use Rattle.lines.proofs.BuildLaws.{put_fits, put_not}
