@@ -45,6 +45,3 @@ returns-then-text-n-2 c = sym (put_not _ _ _ (some (goal.at.returns-then-text-n-
 
 pub loop-k-init : goal.loop-k-init
 loop-k-init c = let a = c.args in paste-zero a.text.now a.at a.line.bytes
-
-pub bounds-bytes-k : goal.bounds-bytes-k
-bounds-bytes-k c = omega (arith, (some (goal.at.bounds-bytes-k c).Joined-len-lt-LONGEST).2)
