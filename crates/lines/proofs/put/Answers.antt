@@ -1,9 +1,9 @@
 use Prim.Native.Nat.{◌≤◌}
-use mathlib.Core.Path.{◌≡◌, refl, sym, ◌∙◌}
+use mathlib.Core.Path.{◌≡◌, sym, ◌∙◌}
 use native.Mathlib.Numerals.{add-one}
 use native.Mathlib.Omega.{arith}
 use borrow.Author.Rules.{rules}
-use lib.ListN.{length, take, length-set}
+use lib.ListN.{length, take}
 use lib.Seq.{paste-zero, paste-suc, take_all, length-take-le}
 use Rattle.lines.specs.Building.{longest, written, laid}
 use Rattle.lines.proofs.BuildLaws.{put_fits, put_not}
@@ -45,6 +45,3 @@ returns-then-text-n-2 c = sym (put_not _ _ _ (some (goal.at.returns-then-text-n-
 
 pub loop-k-init : goal.loop-k-init
 loop-k-init c = let a = c.args in paste-zero a.text.now a.at a.line.bytes
-
-pub bounds-bytes-k : goal.bounds-bytes-k
-bounds-bytes-k c = omega (arith, (some (goal.at.bounds-bytes-k c).Joined-len-lt-LONGEST).2)

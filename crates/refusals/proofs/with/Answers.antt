@@ -4,7 +4,7 @@ use native.Mathlib.Numerals.{add-one}
 use native.Mathlib.Omega.{arith}
 use borrow.Author.Rules.{rules}
 use borrow.Author.Tests.{le-leb, lt-leb}
-use lib.ListN.{length, length-set}
+use lib.ListN.{length}
 use lib.Seq.{paste-zero, paste-suc, take-length}
 use Rattle.lines.specs.Building.{laid}
 use Rattle.refusals.specs.Refusals.{room_of_words}

@@ -1,4 +1,4 @@
-use Rattle.std.proofs.Common.{◌≡◌, ◌<◌, length, sym, refl, ◌∙◌, add-one, arith, length-set, take_all, take-suc, take-suc-set}
+use Rattle.std.proofs.Common.{◌≡◌, ◌<◌, length, sym, ◌∙◌, add-one, arith, take_all, take-suc, take-suc-set}
 use Rattle.frames.specs.Bytes.{bytes}
 use Rattle.frames.proofs.ByteLaws.{bytes_length}
 use Rattle.frames.proofs.digits.frame.Goals as goal

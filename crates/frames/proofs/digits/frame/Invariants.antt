@@ -1,4 +1,4 @@
-use Rattle.std.proofs.Common.{◌≡◌, ◌-◌, ◌≤◌, length, take}
+use Rattle.std.proofs.Common.{◌≡◌, take}
 use Rattle.frames.specs.Bytes.{bytes}
 use Rattle.frames.proofs.digits.frame.Given as goal
 

@@ -1,4 +1,4 @@
-use Rattle.std.proofs.Common.{◌≡◌, ◌+◌, ◌-◌, ◌*◌, ◌%◌, ◌<◌, ◌≤◌, ◌&&◌, drop}
+use Rattle.std.proofs.Common.{◌≡◌, ◌+◌, ◌*◌, ◌%◌, ◌&&◌, drop}
 use Rattle.frames.specs.Bytes.{bytes, all_digits, sum}
 use Rattle.frames.proofs.TallyLaws.{rest, rest_digits}
 use Rattle.frames.proofs.digits.tallied.Given as goal

@@ -1,4 +1,4 @@
-use Rattle.std.proofs.Common.{◌≡◌, ◌-◌, ◌^◌, ◌<◌, ◌≤◌, take, drop}
+use Rattle.std.proofs.Common.{◌≡◌, ◌^◌, ◌<◌, take, drop}
 use Rattle.frames.specs.Bytes.{number}
 use Rattle.frames.proofs.reading.field.Given as goal
 
