@@ -16,9 +16,9 @@ SCOPE = re.compile(r'''
   | (?<![\w.]) (?P<seen> pub (?:\s*\([^)]*\))? \s+)?
     (?: (?P<fn> (?:(?:const|unsafe|extern)\s+)* fn) | (?P<item> struct|enum|const|static|type|mod (?!\s+\w+\s*\{)) ) \s+ (?P<name>\w+)
 ''', re.X)
-CLAUSE = re.compile(r'\s*(?P<kind>[a-z]+)\s*(?=\{)')
+CLAUSE = re.compile(r'\s*(?P<kind>[a-z]+)\*?(?:\s+\w+:?)?\s*(?=\{)')
 CLAUSES = ('ghost', 'requires', 'ensures', 'measure')
-RESULT = re.compile(r'(?:\[[^\]]*\]|[^{;\[])*?(?=\b(?:%s)\s*\{|[{;]|$)' % '|'.join(CLAUSES))
+RESULT = re.compile(r'(?:\[[^\]]*\]|[^{;\[])*?(?=\b(?:%s)\*?(?:\s+\w+:?)?\s*\{|[{;]|$)' % '|'.join(CLAUSES))
 INNER = re.compile(r'\([^(){}<>\[\]]*\)|\{[^(){}<>\[\]]*\}|<[^(){}<>\[\]]*>|\[[^(){}<>\[\]]*\]')
 PART = re.compile(r'\s*#?\s*(?:pub\s+)?(\w+)')
 
@@ -93,6 +93,21 @@ def is_program(crate):
     return (crate / 'src' / 'main.rt').exists()
 
 
+def listed(root):
+    """The crates that crates.txt lists: of each whether it is a static library, and the libraries that it uses."""
+    found = {}
+    for line in (root / 'crates.txt').read_text().splitlines():
+        name, _, uses = line.split('#')[0].partition(':')
+        if name.strip():
+            found[name.split()[0]] = ('staticlib' in name.split(), uses.split())
+    return found
+
+
+def is_static(root, crate):
+    """Whether a crate is a static library, which no other crate can use or speak of."""
+    return (root / 'crates.txt').exists() and listed(root).get(crate.name, (False,))[0]
+
+
 def closing(text, at, pair='{}'):
     """The place past the bracket that closes the one at `at`."""
     depth = 0
@@ -160,8 +175,8 @@ def read_source(crate, file):
 
 
 def functions(root, programs=True):
-    """The functions of all crates, or of those that are no programs."""
-    return [f for crate in crates(root) if programs or not is_program(crate)
+    """The functions of all crates, or of those that are no programs and no static libraries."""
+    return [f for crate in crates(root) if programs or not (is_program(crate) or is_static(root, crate))
             for file in sorted(crate.glob('src/**/*.rt')) for f in read_source(crate, file)[0]]
 
 

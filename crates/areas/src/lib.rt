@@ -1,5 +1,6 @@
 // The sum of all D of a mesh.
 #![tactic(auto)]
+
 ghost use Rattle.std.specs.Prelude.{◌≡◌, ◌/◌, ◌<◌, length};
 ghost use Rattle.geometry.specs.Geometry.{near_d};
 ghost use Rattle.areas.specs.Areas.{above, counted, counted_sum};

@@ -30,6 +30,6 @@ off_step m p s f rooms e = λ i. let r : Given = off m p s f e i in steps_to m p
 pub off_gives_earlier : OffGivesEarlier
 off_gives_earlier = record {
   formulas = earlier_formulas;
-  surge_step = λ κs a x v met e. met ∙ off_step _ _ _ _ _ e;
-  capi_surge_step = λ κs a x v met e. met ∙ off_step _ _ _ _ _ e;
+  surge_step = λ κs a g x v met e. met ∙ off_step _ _ _ _ _ e;
+  capi_surge_step = λ κs a g x v met e. met ∙ off_step _ _ _ _ _ e;
 }

@@ -16,8 +16,7 @@ use Rattle.passes.specs.Settle.{Rooms}
 use Rattle.saves.specs.Save.{save_of}
 use Rattle.loads.specs.Load.{load_of}
 use Rattle.forcings.specs.Forcings.{taken_of}
-use Rattle.demands.specs.Answers.{Accepts, Refuses}
-use Rattle.demands.specs.Demand1.{OpenSays, StepSays, StepAllSays, SaveSays, LoadSays, ForcingSays, Demand1}
+use Rattle.demands.specs.Demand1.{Accepts, Refuses, OpenSays, StepSays, StepAllSays, SaveSays, LoadSays, ForcingSays, Demand1}
 use Rattle.demands.proofs.StepAllProof.{step_all_says}
 use Rattle.surge.proofs.NumberLaws.{not_13, only_13}
 use Rattle.surge.proofs.StepLaws.{early, late, step_cases}
@@ -91,16 +90,16 @@ forcing_says room t expected = record { answer = refl; accepted = λ h. rw (eq-e
 -- ---- and of every outcome that meets the contract, since it is the one of the definition (Demand2)
 pub demand1 : Demand1
 demand1 = record {
-  surge_open = λ κs a x v met. subst (OpenSays _ _ _) (sym met) (open_says _ _ _);
-  surge_step = λ κs a x v met. subst (StepSays _ _ _ _ _) (sym met) (step_says _ _ _ _ _);
-  surge_step_all = λ κs a x v met. subst (StepAllSays _ _ _ _ _) (sym met) (step_all_says _ _ _ _ _);
-  saves_save = λ κs a x v met. subst (SaveSays _ _ _ _ _) (sym met) (save_says _ _ _ _ _);
-  loads_load = λ κs a x v met. subst (LoadSays _ _ _ _ _) (sym met) (load_says _ _ _ _ _);
-  forcings_read_forcing = λ κs a x v met. subst (ForcingSays _ _ _) (sym met) (forcing_says _ _ _);
-  capi_surge_open = λ κs a x v met. subst (OpenSays _ _ _) (sym met) (open_says _ _ _);
-  capi_surge_step = λ κs a x v met. subst (StepSays _ _ _ _ _) (sym met) (step_says _ _ _ _ _);
-  capi_surge_step_all = λ κs a x v met. subst (StepAllSays _ _ _ _ _) (sym met) (step_all_says _ _ _ _ _);
-  capi_surge_save = λ κs a x v met. subst (SaveSays _ _ _ _ _) (sym met) (save_says _ _ _ _ _);
-  capi_surge_load = λ κs a x v met. subst (LoadSays _ _ _ _ _) (sym met) (load_says _ _ _ _ _);
-  capi_surge_read_forcing = λ κs a x v met. subst (ForcingSays _ _ _) (sym met) (forcing_says _ _ _);
+  surge_open = λ κs a g x v met. subst (OpenSays _ _ _) (sym met) (open_says _ _ _);
+  surge_step = λ κs a g x v met. subst (StepSays _ _ _ _ _) (sym met) (step_says _ _ _ _ _);
+  surge_step_all = λ κs a g x v met. subst (StepAllSays _ _ _ _ _) (sym met) (step_all_says _ _ _ _ _);
+  saves_save = λ κs a g x v met. subst (SaveSays _ _ _ _ _) (sym met) (save_says _ _ _ _ _);
+  loads_load = λ κs a g x v met. subst (LoadSays _ _ _ _ _) (sym met) (load_says _ _ _ _ _);
+  forcings_read_forcing = λ κs a g x v met. subst (ForcingSays _ _ _) (sym met) (forcing_says _ _ _);
+  capi_surge_open = λ κs a g x v met. subst (OpenSays _ _ _) (sym met) (open_says _ _ _);
+  capi_surge_step = λ κs a g x v met. subst (StepSays _ _ _ _ _) (sym met) (step_says _ _ _ _ _);
+  capi_surge_step_all = λ κs a g x v met. subst (StepAllSays _ _ _ _ _) (sym met) (step_all_says _ _ _ _ _);
+  capi_surge_save = λ κs a g x v met. subst (SaveSays _ _ _ _ _) (sym met) (save_says _ _ _ _ _);
+  capi_surge_load = λ κs a g x v met. subst (LoadSays _ _ _ _ _) (sym met) (load_says _ _ _ _ _);
+  capi_surge_read_forcing = λ κs a g x v met. subst (ForcingSays _ _ _) (sym met) (forcing_says _ _ _);
 }

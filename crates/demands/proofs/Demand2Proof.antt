@@ -16,23 +16,22 @@ use Rattle.mesh.proofs.ShapedLaws.{shaped}
 use Rattle.nodes.proofs.PartLaws.{open_parts}
 use Rattle.surge.specs.Open.{open_answer}
 use Rattle.lists.specs.Gather.{alike}
-use Rattle.demands.specs.Demand2.{Demand2}
-use Rattle.demands.specs.Floats.{SidesLossless, MeshLossless, FloatsWithoutLoss}
+use Rattle.demands.specs.Demand2.{Demand2, SidesLossless, MeshLossless, FloatsWithoutLoss}
 
 pub demand2 : Demand2
 demand2 = record {
-  surge_open = λ κs a x v met. met;
-  surge_step = λ κs a x v met. met;
-  surge_step_all = λ κs a x v met. met;
-  saves_save = λ κs a x v met. met;
-  loads_load = λ κs a x v met. met;
-  forcings_read_forcing = λ κs a x v met. met;
-  capi_surge_open = λ κs a x v met. met;
-  capi_surge_step = λ κs a x v met. met;
-  capi_surge_step_all = λ κs a x v met. met;
-  capi_surge_save = λ κs a x v met. met;
-  capi_surge_load = λ κs a x v met. met;
-  capi_surge_read_forcing = λ κs a x v met. met;
+  surge_open = λ κs a g x v met. met;
+  surge_step = λ κs a g x v met. met;
+  surge_step_all = λ κs a g x v met. met;
+  saves_save = λ κs a g x v met. met;
+  loads_load = λ κs a g x v met. met;
+  forcings_read_forcing = λ κs a g x v met. met;
+  capi_surge_open = λ κs a g x v met. met;
+  capi_surge_step = λ κs a g x v met. met;
+  capi_surge_step_all = λ κs a g x v met. met;
+  capi_surge_save = λ κs a g x v met. met;
+  capi_surge_load = λ κs a g x v met. met;
+  capi_surge_read_forcing = λ κs a g x v met. met;
 }
 
 -- ---- floats without loss

@@ -96,6 +96,6 @@ module _ (m : Mesh) (p : Parameters) (s : Run) (f : List Float) (rooms : Rooms) 
 
 pub same_at_zero_friction : SameAtZeroFriction
 same_at_zero_friction = record {
-  surge_step = λ κs a x v met k. met ∙ same_step _ _ _ _ _ k;
-  capi_surge_step = λ κs a x v met k. met ∙ same_step _ _ _ _ _ k;
+  surge_step = λ κs a g x v met k. met ∙ same_step _ _ _ _ _ k;
+  capi_surge_step = λ κs a g x v met k. met ∙ same_step _ _ _ _ _ k;
 }

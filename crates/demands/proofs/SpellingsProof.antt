@@ -27,8 +27,7 @@ use Rattle.loads.proofs.OwnLaws as own
 use Rattle.loads.proofs.SpellingLaws.{load_upper}
 use Rattle.loads.proofs.WrittenLaws.{text_written}
 use Rattle.demands.specs.RoundTrip.{gives}
-use Rattle.demands.specs.Spellings.{EitherCase}
-use Rattle.demands.specs.Forms.{LoadsTo, SaveWrites, OnlyForm, ManySpellingsOneForm}
+use Rattle.demands.specs.Spellings.{EitherCase, LoadsTo, SaveWrites, OnlyForm, ManySpellingsOneForm}
 
 -- ---- spellings of one text are read alike
 load_alike : (m : Mesh) (p : Parameters) (s t : List ℕ) (state : List Float) (k : Clock) → Spells s t → load_of m p s state k ≡ load_of m p t state k
@@ -39,10 +38,10 @@ read_alike room s t expected = alike (λ (u : List ℕ). taken_of room u expecte
 
 pub either_case : EitherCase
 either_case = record {
-  loads_load = λ κs a x v met s same. met ∙ sym (load_alike _ _ _ _ _ _ same);
-  forcings_read_forcing = λ κs a x v met s same. met ∙ sym (read_alike _ _ _ _ same);
-  capi_surge_load = λ κs a x v met s same. met ∙ sym (load_alike _ _ _ _ _ _ same);
-  capi_surge_read_forcing = λ κs a x v met s same. met ∙ sym (read_alike _ _ _ _ same);
+  loads_load = λ κs a g x v met s same. met ∙ sym (load_alike _ _ _ _ _ _ same);
+  forcings_read_forcing = λ κs a g x v met s same. met ∙ sym (read_alike _ _ _ _ same);
+  capi_surge_load = λ κs a g x v met s same. met ∙ sym (load_alike _ _ _ _ _ _ same);
+  capi_surge_read_forcing = λ κs a g x v met s same. met ∙ sym (read_alike _ _ _ _ same);
 }
 
 -- ---- a text that loads to a run

@@ -25,8 +25,7 @@ use Rattle.surge.specs.Lent.{Run}
 use Rattle.surge.specs.StepAll.{step_all_of, list_answer, later_answer}
 use Rattle.surge.proofs.NumberLaws.{run_plain}
 use Rattle.surge.proofs.StepAllLaws.{Passed, leaves, some_of, copies, step_all_cases}
-use Rattle.demands.specs.Answers.{Accepts, Refuses}
-use Rattle.demands.specs.Demand1.{run_after, StepAllSays}
+use Rattle.demands.specs.Demand1.{Accepts, Refuses, run_after, StepAllSays}
 
 module _ (m : Mesh) (p : Parameters) (s : Run) (l : List Float) (r : Rooms) where
   refused_rows : Refuses (list_answer m p s l r) → StepAllSays m p s l r (leaves m p s l r (list_answer m p s l r) r)

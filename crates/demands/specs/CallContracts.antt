@@ -2,8 +2,9 @@
 -- together here once, from its arguments as they were lent, its result and the slices as they are left; the statements on it stand in Demand1 and Demand2.
 use Rattle.std.specs.Prelude.{ℕ, List, Float}
 use contract.Lifetimes.{Lfts}
-use borrow.Fn.Kinds.{ParamKind, ResultKind, Out, Dens, res_t, ended_of}
-use denote.Triple.Clauses.{Lasts, at_exit}
+use denote.Triple.Entry.{Args, Res}
+use denote.Triple.Clauses.{Ended, Clauses, Lasts, at_exit}
+use borrow.Fn.World.{w₀}
 use Rattle.quantities.specs.declared.Parameters.{Parameters}
 use Rattle.surge.specs.declared.Clock.{Clock}
 use Rattle.mesh.specs.Lent.{Mesh, mesh}
@@ -15,45 +16,34 @@ use Rattle.passes.specs.Settle.{Rooms, lent_rooms}
 use Rattle.forcings.specs.Forcings.{Taken, taken}
 use Rattle.saves.specs.Save.{SaveOut, save_out}
 use Rattle.capi.specs.Numbers as C
-use Rattle.surge.proofs.open.Kinds as open_kinds
-use Rattle.surge.proofs.open.Reads as open_reads
-use Rattle.surge.proofs.step.Kinds as step_kinds
-use Rattle.surge.proofs.step.Reads as step_reads
-use Rattle.surge.proofs.step_all.Kinds as step_all_kinds
-use Rattle.surge.proofs.step_all.Reads as step_all_reads
-use Rattle.saves.proofs.save.Kinds as save_kinds
-use Rattle.saves.proofs.save.Reads as save_reads
-use Rattle.loads.proofs.load.Kinds as load_kinds
-use Rattle.loads.proofs.load.Reads as load_reads
-use Rattle.forcings.proofs.read_forcing.Kinds as read_forcing_kinds
-use Rattle.forcings.proofs.read_forcing.Reads as read_forcing_reads
-use Rattle.capi.proofs.surge_open.Kinds as surge_open_kinds
-use Rattle.capi.proofs.surge_open.Reads as surge_open_reads
-use Rattle.capi.proofs.surge_step.Kinds as surge_step_kinds
-use Rattle.capi.proofs.surge_step.Reads as surge_step_reads
-use Rattle.capi.proofs.surge_step_all.Kinds as surge_step_all_kinds
-use Rattle.capi.proofs.surge_step_all.Reads as surge_step_all_reads
-use Rattle.capi.proofs.surge_save.Kinds as surge_save_kinds
-use Rattle.capi.proofs.surge_save.Reads as surge_save_reads
-use Rattle.capi.proofs.surge_load.Kinds as surge_load_kinds
-use Rattle.capi.proofs.surge_load.Reads as surge_load_reads
-use Rattle.capi.proofs.surge_read_forcing.Kinds as surge_read_forcing_kinds
-use Rattle.capi.proofs.surge_read_forcing.Reads as surge_read_forcing_reads
+use Rattle.demands.specs.Ensured.{Ensures, told, says, 𝓛₀, mem₀, run₀}
+use Rattle.surge.specs.contracts.open as open_contract
+use Rattle.surge.specs.contracts.step as step_contract
+use Rattle.surge.specs.contracts.step_all as step_all_contract
+use Rattle.saves.specs.contracts.save as save_contract
+use Rattle.loads.specs.contracts.load as load_contract
+use Rattle.forcings.specs.contracts.read_forcing as read_forcing_contract
+use Rattle.capi.specs.contracts.surge_open as surge_open_contract
+use Rattle.capi.specs.contracts.surge_step as surge_step_contract
+use Rattle.capi.specs.contracts.surge_step_all as surge_step_all_contract
+use Rattle.capi.specs.contracts.surge_save as surge_save_contract
+use Rattle.capi.specs.contracts.surge_load as surge_load_contract
+use Rattle.capi.specs.contracts.surge_read_forcing as surge_read_forcing_contract
 
--- ps and r are the kinds of a function's parameters and of its result, and Post is its `ensures`. Whatever the arguments a, the result x and the lent
--- slices as they are left, v: where they meet the `ensures`, Says holds of them
-abbrev pub Keeps : {n : ℕ} (ps : List (ParamKind n)) (r : ResultKind n) → Out n ps r
-    → ((κs : Lfts n) (a : Dens κs ps) (x : (res_t r κs).Denot) → Lasts (ended_of n ps r) κs a → Type 0) → Type 0
-Keeps {n} ps r Post Says =
-    (κs : Lfts n) (a : Dens κs ps) (x : (res_t r κs).Denot) (v : Lasts (ended_of n ps r) κs a) →
-    Post κs a x (at_exit (ended_of n ps r) κs a v) → Says κs a x v
+-- T and c are a function's parameters and contract, and r reads its `ensures` (Ensured). Whatever the arguments a, the result x and the lent slices as they are
+-- left, v: where they meet the `ensures`, Says holds of them
+abbrev pub Keeps : (T : Ended) (c : Clauses w₀.𝓤 T) → Ensures T c
+    → ((κs : Lfts T.signature.lifetimes) (a : Args T.signature κs) (x : Res T.signature κs) → Lasts T κs a → Type 0) → Type 0
+Keeps T c r Says =
+    (κs : Lfts T.signature.lifetimes) (a : Args T.signature κs) (g : (c κs a).ghost) (x : Res T.signature κs) (v : Lasts T κs a) →
+    told (r κs a g x (at_exit T κs a v)) → Says κs a x v
 
 -- ---- the product's calls
 
 -- open(state, x, y, tri, h, kind, p): of the mesh, the parameters, the state as it was lent, and what is left
 abbrev pub Opening : (Mesh → Parameters → List Float → After → Type 0) → Type 0
 Opening Says =
-    Keeps open_kinds.ps open_kinds.r open_reads.Post
+    Keeps open_contract.ended (open_contract.clauses 𝓛₀ mem₀ run₀) (λ κs a g x s. says _)
     (λ κs (state, (x, (y, (tri, (h, (kind, (p, _))))))) reply left.
     Says (mesh x.now y.now tri.now h.now kind.now) p state.now (after reply left.0))
 
@@ -61,7 +51,7 @@ Opening Says =
 -- what is left
 abbrev pub Stepping : (Mesh → Parameters → Run → List Float → Rooms → StepOut → Type 0) → Type 0
 Stepping Says =
-    Keeps step_kinds.ps step_kinds.r step_reads.Post
+    Keeps step_contract.ended (step_contract.clauses 𝓛₀ mem₀ run₀) (λ κs a g x s. says _)
     (λ κs (next, (work, (sums, (state, (f, (x, (y, (tri, (h, (kind, (p, (clock, _)))))))))))) reply left.
     Says (mesh x.now y.now tri.now h.now kind.now) p (run state.now clock) f.now (lent_rooms next.now work.now sums.now)
     (step_out reply left.0 left.1.0 left.1.1.0))
@@ -70,7 +60,7 @@ Stepping Says =
 -- what is left
 abbrev pub SteppingAll : (Mesh → Parameters → Run → List Float → Rooms → Turns → Type 0) → Type 0
 SteppingAll Says =
-    Keeps step_all_kinds.ps step_all_kinds.r step_all_reads.Post
+    Keeps step_all_contract.ended (step_all_contract.clauses 𝓛₀ mem₀ run₀) (λ κs a g x s. says _)
     (λ κs (next, (work, (sums, (state, (list, (x, (y, (tri, (h, (kind, (p, (clock, _)))))))))))) reply left.
     Says (mesh x.now y.now tri.now h.now kind.now) p (run state.now clock) list.now (lent_rooms next.now work.now sums.now)
     (list_out reply left.0 left.1.0 left.1.1.0))
@@ -78,21 +68,21 @@ SteppingAll Says =
 -- save(text, state, x, y, tri, h, kind, p, clock): of the mesh, the parameters, the state, the clock, the text room as it was lent, and what is left
 abbrev pub Saving : (Mesh → Parameters → List Float → Clock → List ℕ → SaveOut → Type 0) → Type 0
 Saving Says =
-    Keeps save_kinds.ps save_kinds.r save_reads.Post
+    Keeps save_contract.ended (save_contract.clauses 𝓛₀ mem₀ run₀) (λ κs a g x s. says _)
     (λ κs (text, (state, (x, (y, (tri, (h, (kind, (p, (clock, _))))))))) answer left.
     Says (mesh x.now y.now tri.now h.now kind.now) p state.now clock text.now (save_out answer left.0))
 
 -- load(state, text, x, y, tri, h, kind, p, clock): of the mesh, the parameters, the text, the state and the clock as they were, and what is left
 abbrev pub Loading : (Mesh → Parameters → List ℕ → List Float → Clock → After → Type 0) → Type 0
 Loading Says =
-    Keeps load_kinds.ps load_kinds.r load_reads.Post
+    Keeps load_contract.ended (load_contract.clauses 𝓛₀ mem₀ run₀) (λ κs a g x s. says _)
     (λ κs (state, (text, (x, (y, (tri, (h, (kind, (p, (clock, _))))))))) reply left.
     Says (mesh x.now y.now tri.now h.now kind.now) p text.now state.now clock (after reply left.0))
 
 -- read_forcing(room, text, expected): of the room as it was lent, the text, the sequence number that is due, and what is left
 abbrev pub Reading : (List Float → List ℕ → ℕ → Taken → Type 0) → Type 0
 Reading Says =
-    Keeps read_forcing_kinds.ps read_forcing_kinds.r read_forcing_reads.Post
+    Keeps read_forcing_contract.ended (read_forcing_contract.clauses 𝓛₀ mem₀ run₀) (λ κs a g x s. says _)
     (λ κs (room, (text, (expected, _))) answer left. Says room.now text.now expected (taken answer left.0))
 
 -- ---- the calls for C: the number is the result, and all else that comes back goes through pointers
@@ -100,7 +90,7 @@ Reading Says =
 -- surge_open(state, place, value, step, x, y, tri, h, kind, dt, tau, k, f, advection)
 abbrev pub OpeningC : (Mesh → Parameters → List Float → After → Type 0) → Type 0
 OpeningC Says =
-    Keeps surge_open_kinds.ps surge_open_kinds.r surge_open_reads.Post
+    Keeps surge_open_contract.ended (surge_open_contract.clauses 𝓛₀ mem₀ run₀) (λ κs a g x s. says _)
     (λ κs (state, (_, (_, (_, (x, (y, (tri, (h, (kind, (dt, (tau, (k, (f, (on, _)))))))))))))) number (state', (place, (value, (step, _)))).
     Says (mesh x.now y.now tri.now h.now kind.now) (C.parameters dt tau k f on) state.now
     (after (C.reply (C.answer number place value) (C.clock step)) state'))
@@ -108,7 +98,7 @@ OpeningC Says =
 -- surge_step(next, work, sums, place, value, step, state, forcing, x, y, tri, h, kind, dt, tau, k, f, advection)
 abbrev pub SteppingC : (Mesh → Parameters → Run → List Float → Rooms → StepOut → Type 0) → Type 0
 SteppingC Says =
-    Keeps surge_step_kinds.ps surge_step_kinds.r surge_step_reads.Post
+    Keeps surge_step_contract.ended (surge_step_contract.clauses 𝓛₀ mem₀ run₀) (λ κs a g x s. says _)
     (λ κs
     (next, (work, (sums, (_, (_, (step, (state, (forcing, (x, (y, (tri, (h, (kind, (dt, (tau, (k, (f, (on, _))))))))))))))))))
     number (next', (work', (sums', (place, (value, (step', _)))))).
@@ -118,7 +108,7 @@ SteppingC Says =
 -- surge_step_all(next, work, sums, place, value, step, accepted, state, forcings, x, y, tri, h, kind, dt, tau, k, f, advection)
 abbrev pub SteppingAllC : (Mesh → Parameters → Run → List Float → Rooms → Turns → Type 0) → Type 0
 SteppingAllC Says =
-    Keeps surge_step_all_kinds.ps surge_step_all_kinds.r surge_step_all_reads.Post
+    Keeps surge_step_all_contract.ended (surge_step_all_contract.clauses 𝓛₀ mem₀ run₀) (λ κs a g x s. says _)
     (λ κs
     (next, (work, (sums, (_, (_, (step, (_, (state, (forcings, (x, (y, (tri, (h, (kind, (dt, (tau, (k, (f, (on, _)))))))))))))))))))
     number (next', (work', (sums', (place, (value, (step', (accepted, _))))))).
@@ -129,7 +119,7 @@ SteppingAllC Says =
 -- surge_save(text, place, value, state, x, y, tri, h, kind, dt, tau, k, f, advection, step)
 abbrev pub SavingC : (Mesh → Parameters → List Float → Clock → List ℕ → SaveOut → Type 0) → Type 0
 SavingC Says =
-    Keeps surge_save_kinds.ps surge_save_kinds.r surge_save_reads.Post
+    Keeps surge_save_contract.ended (surge_save_contract.clauses 𝓛₀ mem₀ run₀) (λ κs a g x s. says _)
     (λ κs (text, (_, (_, (state, (x, (y, (tri, (h, (kind, (dt, (tau, (k, (f, (on, (step, _))))))))))))))) number (text', (place, (value, _))).
     Says (mesh x.now y.now tri.now h.now kind.now) (C.parameters dt tau k f on) state.now (C.clock step) text.now
     (save_out (C.answer number place value) text'))
@@ -137,7 +127,7 @@ SavingC Says =
 -- surge_load(state, place, value, step, text, x, y, tri, h, kind, dt, tau, k, f, advection)
 abbrev pub LoadingC : (Mesh → Parameters → List ℕ → List Float → Clock → After → Type 0) → Type 0
 LoadingC Says =
-    Keeps surge_load_kinds.ps surge_load_kinds.r surge_load_reads.Post
+    Keeps surge_load_contract.ended (surge_load_contract.clauses 𝓛₀ mem₀ run₀) (λ κs a g x s. says _)
     (λ κs
     (state, (_, (_, (step, (text, (x, (y, (tri, (h, (kind, (dt, (tau, (k, (f, (on, _)))))))))))))))
     number (state', (place, (value, (step', _)))).
@@ -147,6 +137,6 @@ LoadingC Says =
 -- surge_read_forcing(forcing, place, value, text, expected)
 abbrev pub ReadingC : (List Float → List ℕ → ℕ → Taken → Type 0) → Type 0
 ReadingC Says =
-    Keeps surge_read_forcing_kinds.ps surge_read_forcing_kinds.r surge_read_forcing_reads.Post
+    Keeps surge_read_forcing_contract.ended (surge_read_forcing_contract.clauses 𝓛₀ mem₀ run₀) (λ κs a g x s. says _)
     (λ κs (room, (_, (_, (text, (expected, _))))) number (room', (place, (value, _))).
     Says room.now text.now expected (taken (C.answer number place value) room'))

@@ -24,8 +24,13 @@ use Rattle.editions.specs.Lines.{save_length, edition_of}
 use Rattle.saves.specs.Save.{saved_of, save_text, save_answer, SaveOut, wrote}
 use Rattle.loads.specs.Load.{clock_in, load_answer, state_in}
 use Rattle.forcings.specs.Forcings.{nodes_of, forcing_of, forcing_answer, Taken}
-use Rattle.demands.specs.Answers.{Accepts, Refuses}
 use Rattle.demands.specs.CallContracts.{Opening, Stepping, SteppingAll, Saving, Loading, Reading, OpeningC, SteppingC, SteppingAllC, SavingC, LoadingC, ReadingC}
+
+abbrev pub Accepts : Answer → Type 0
+Accepts a = a.number ≡ 0
+
+abbrev pub Refuses : Answer → Type 0
+Refuses a = Accepts a → ⊥
 
 -- ---- what is promised of an outcome
 

@@ -14,7 +14,7 @@ use Rattle.bounds.specs.State.{state_runs, run_rows}
 use Rattle.editions.specs.Lines.{edition1, layout_at}
 use Rattle.saves.specs.Save.{Saved, save_text, save_text1, with_wind}
 use Rattle.loads.specs.Load.{load_of}
-use Rattle.demands.specs.Answers.{Accepts}
+use Rattle.demands.specs.Demand1.{Accepts}
 use Rattle.demands.specs.RoundTrip.{gives}
 
 -- a run of document 01 as a program has it: four runs of N binary64, a wind of two, a step number of 4 bytes

@@ -1,12 +1,10 @@
-pub mod Answers
+pub mod Ensured
 pub mod CallContracts
 pub mod Demand1
 pub mod Demand2
-pub mod Floats
 pub mod Friction
 pub mod Advection
 pub mod RoundTrip
 pub mod Spellings
-pub mod Forms
 pub mod Editions
 pub mod Demand3

@@ -12,7 +12,7 @@ use Rattle.editions.specs.Lines.{save_length}
 use Rattle.saves.specs.Save.{Saved, SaveOut, save_text, save_of, wrote}
 use Rattle.loads.specs.Load.{load_of}
 use Rattle.loads.specs.Storable.{StorableState, StorableClock, StorableParameters}
-use Rattle.demands.specs.Answers.{Accepts}
+use Rattle.demands.specs.Demand1.{Accepts}
 
 -- the text that a save wrote: as many bytes as its place says
 abbrev pub written : SaveOut → List ℕ

@@ -1,5 +1,6 @@
 // The lines of a save, in either edition: of which edition a text is, what is due at a line, and what is asked of one.
 #![tactic(auto)]
+
 ghost use Rattle.std.specs.Prelude.{◌≡◌, ◌≤◌};
 ghost use Rattle.rows.specs.Scan.{◌then◌};
 ghost use Rattle.frames.specs.Texts.{due};

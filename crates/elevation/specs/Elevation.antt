@@ -14,7 +14,7 @@ module _ (less : Taking) (run : Parameters) (m : Means) (D : Float) where
   open run use {dt, tau, k as K, f}
   open m use {ub as Ub, vb as Vb, z as Z, qx as Qx, qy as Qy, sx as Sx, sy as Sy, xu as Xu, yu as Yu, xv as Xv, yv as Yv, wx as Wx, wy as Wy}
 
-  -- "Jx = ((((f·Qy - (g·Sx)/(2·D)) + Wx) - K·Ub) + (Ub·Z)/dt) + tau·Qx". Document 02, #103: "In Jx, (Qx-as-Xu + Qy-as-Yu)/D is taken from f·Qy before the
+  -- "Jx = ((((f·Qy - (g·Sx)/(2·D)) + Wx) - K·Ub) + (Ub·Z)/dt) + tau·Qx". Document 02, #103: "In Jx, (Qx·Xu + Qy·Yu)/D is taken from f·Qy before the
   -- squared-elevation term; Jy likewise with Xv, Yv." #105: Wx is "the mean of the three corner winds", of the triangle's record.
   unfoldable pub Jx : Float
   Jx = ((((less (f ⊗ Qy) ((Qx ⊗ Xu ⊕ Qy ⊗ Yu) ⊘ D) ⊖ (g ⊗ Sx) ⊘ (two ⊗ D)) ⊕ Wx) ⊖ K ⊗ Ub) ⊕ (Ub ⊗ Z) ⊘ dt) ⊕ tau ⊗ Qx

@@ -1,5 +1,6 @@
 // The formulas of "Elevation" on single values: what a triangle gives to its corners, and what a node makes of it.
 #![tactic(auto)]
+
 ghost use Rattle.std.specs.Prelude.{◌≡◌};
 ghost use Rattle.quantities.specs.Operations.{◌⊕◌, ◌⊗◌, ◌⊘◌, less_if};
 ghost use Rattle.elevation.specs.Elevation.{Jx, Jy, corner, shares, L, z', rise_of};

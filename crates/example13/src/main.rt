@@ -2,29 +2,32 @@
 // its binary64 pattern, one a line, and last the clock's step number. The file `stdout` beside src/ holds what the independent second program gives. Standard
 // error says of a write that fails why it did.
 #![tactic(auto)]
-use libc::STDOUT_FILENO;
 use quantities::Parameters;
+use std::io;
 
-// Each of these says whether all was written.
-fn print_number(number: f64) -> bool {
-    io::print_hex(STDOUT_FILENO, patterns::pattern_of(number), 16)
-        && io::write_all(STDOUT_FILENO, b"\n")
+fn print_number(rt: &impl Print, number: f64) -> io::Result<()> {
+    println!(rt; "{:016X}", patterns::pattern_of(number))
 }
 
-fn print_state(state: &[f64]) -> bool {
-    for i in 0..state.len() {
-        if !print_number(state[i]) {
-            return false;
-        }
+fn print_state(rt: &impl Print, state: &[f64]) -> io::Result<()> {
+    for number in state {
+        print_number(rt, *number)?;
     }
-    true
+    Ok(())
 }
 
-fn print_step(step: u32) -> bool {
-    io::print_decimal(STDOUT_FILENO, step as u64) && io::write_all(STDOUT_FILENO, b"\n")
+fn print_step(rt: &impl Print, step: u32) -> io::Result<()> {
+    println!(rt; "{step}")
 }
 
-fn main() {
+fn print_run(rt: &impl Print, first: &[f64], second: &[f64], step: u32) -> io::Result<()> {
+    print_state(rt, first)?;
+    print_state(rt, second)?;
+    print_step(rt, step)
+}
+
+// The error that it ends with is of standard error, where a failed write is told.
+fn main(rt: HostRuntime) -> io::Result<()> {
     let x = [0i32, 100, 0];
     let y = [0i32, 0, 100];
     let tri = [0u16, 1, 2];
@@ -61,7 +64,8 @@ fn main() {
     let two = surge::step(
         &mut state, &mut work, &mut sums, &next, &calm, &x, &y, &tri, &h, &kind, p, one.clock,
     );
-    if !(print_state(&next) && print_state(&state) && print_step(two.clock.step)) {
-        os::fail(b"example13: cannot write standard output");
+    if let Err(error) = print_run(&rt, &next, &state, two.clock.step) {
+        eprintln!(rt; "example13: cannot write standard output: {error}")?;
     }
+    Ok(())
 }

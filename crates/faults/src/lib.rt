@@ -1,5 +1,6 @@
 // Rows 20 to 22 of the refusal table, of one line.
 #![tactic(auto)]
+
 ghost use Rattle.std.specs.Prelude.{◌≡◌};
 ghost use Rattle.faults.specs.Faults.{is_framed, fault};
 

@@ -1,5 +1,6 @@
 // Reading a forcing: one line of kind 10, or one of kind 14 and then one of kind 15 for each node.
 #![tactic(auto)]
+
 ghost use Rattle.std.specs.Prelude.{◌≡◌, ◌+◌, ◌*◌, ◌^◌, ◌<◌, ◌≤◌, length, set};
 ghost use Rattle.forcings.specs.Forcings.{forcing_length, rows14, forcing10, forcing14, taken, taken_of};
 

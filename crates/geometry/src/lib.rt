@@ -1,5 +1,6 @@
 // Triangle geometry on single values, in whole numbers; a node's sum also as a float, without loss. No slice is lent to any function here, and no public one asks anything of its caller.
 #![tactic(auto)]
+
 ghost use Rattle.std.specs.Prelude.{◌≡◌, pos, ◌-ℤ◌};
 ghost use Rattle.std.specs.Float.Ieee.{of_int};
 ghost use Rattle.std.specs.Float.{binary64};

@@ -1,5 +1,6 @@
 // The grid format that harbour modellers send: a mesh from a text.
 #![tactic(auto)]
+
 pub(crate) mod asking;
 pub(crate) mod entries;
 pub(crate) mod fields;

@@ -1,5 +1,6 @@
 // The legs of a mesh's triangles: row 6 of the refusal table.
 #![tactic(auto)]
+
 ghost use Rattle.std.specs.Prelude.{◌≡◌, ◌+◌, ◌*◌, ◌/◌, ◌%◌, ◌<◌, length};
 ghost use Rattle.lists.specs.Private.{Below};
 ghost use Rattle.rows.specs.Scan.{scan};

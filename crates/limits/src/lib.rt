@@ -1,5 +1,6 @@
 // The limits of document 01 on single values: what rows 8 to 12 of the refusal table ask of a node, the parameters, a clock, a wind and an elevation.
 #![tactic(auto)]
+
 ghost use Rattle.std.specs.Prelude.{◌≡◌};
 ghost use Rattle.rows.specs.Numbers.{within};
 ghost use Rattle.rows.specs.Scan.{row};

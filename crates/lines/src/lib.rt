@@ -1,5 +1,6 @@
 // A line while it is built. Appending is total: where there is no room, the line comes back unchanged.
 #![tactic(auto)]
+
 ghost use Rattle.std.specs.Prelude.{◌≡◌, ◌<◌};
 ghost use Rattle.frames.specs.Bytes.{digit, digits, field};
 ghost use Rattle.lines.specs.Building.{appended, begun, sealed, put_out, put_of};

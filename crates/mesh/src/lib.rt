@@ -1,5 +1,6 @@
 // The mesh as it is lent, and rows 1 to 5 of the refusal table, in the document's order.
 #![tactic(auto)]
+
 pub mod reading;
 pub(crate) mod triangles;
 

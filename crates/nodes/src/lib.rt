@@ -1,5 +1,6 @@
 // The mesh's rows of the refusal table, 1 to 9, in the document's order: after the mesh's own those of its nodes.
 #![tactic(auto)]
+
 pub(crate) mod depths;
 pub(crate) mod marks;
 

@@ -1,5 +1,6 @@
 // Row 13 of the refusal table on single values: what becomes of a node, and the answer for it.
 #![tactic(auto)]
+
 ghost use Rattle.std.specs.Prelude.{◌≡◌};
 ghost use Rattle.outcomes.specs.Outcomes.{of_rise, speed, of_east, of_north, answer_of, rise_row, flow_row};
 

@@ -45,11 +45,9 @@ pub(crate) fn assemble(
     elevation: f64,
     winds: &[f64],
 )
-    ghost g: { Given }
-    requires winds_value { given (mesh x.now y.now tri.now h.now kind.now) p state.now elevation winds.now ≡ g }
-    requires fits { Fits g }
-    requires work_len { (length work.old ≡ work_runs * count g) × (length sums.old ≡ count g) }
-    ensures { (work.new ≡ sum_room g) × (sums.new ≡ table (count g) (S g)) }
+    requires fits { let g : Given = given (mesh x.now y.now tri.now h.now kind.now) p state.now elevation winds.now in Fits g }
+    requires work_len { let g : Given = given (mesh x.now y.now tri.now h.now kind.now) p state.now elevation winds.now in (length work.old ≡ work_runs * count g) × (length sums.old ≡ count g) }
+    ensures { let g : Given = given (mesh x.now y.now tri.now h.now kind.now) p state.now elevation winds.now in (work.new ≡ sum_room g) × (sums.new ≡ table (count g) (S g)) }
 {
     slices::clear(work);
     slices::clear_whole(sums);
@@ -95,11 +93,9 @@ pub(crate) fn rises(
     elevation: f64,
     winds: &[f64],
 ) -> Answer
-    ghost g: { Given }
-    requires winds_value { given (mesh x.now y.now tri.now h.now kind.now) p state.now elevation winds.now ≡ g }
-    requires fits { Fits g }
-    requires work_value { (work.old ≡ sum_room g) × (sums.now ≡ table (count g) (S g)) }
-    ensures { (result ≡ rise_rows g) × (work.new ≡ rise_room g) }
+    requires fits { let g : Given = given (mesh x.now y.now tri.now h.now kind.now) p state.now elevation winds.now in Fits g }
+    requires work_value { let g : Given = given (mesh x.now y.now tri.now h.now kind.now) p state.now elevation winds.now in (work.old ≡ sum_room g) × (sums.now ≡ table (count g) (S g)) }
+    ensures { let g : Given = given (mesh x.now y.now tri.now h.now kind.now) p state.now elevation winds.now in (result ≡ rise_rows g) × (work.new ≡ rise_room g) }
 {
     let n = x.len();
     let mut all = true;

@@ -1,5 +1,6 @@
 // The engine by triangles: row 13 and the equations, after what a call asks.
 #![tactic(auto)]
+
 pub(crate) mod elevations;
 pub(crate) mod reading;
 pub(crate) mod state;

@@ -48,11 +48,9 @@ fn work_on(
     elevation: f64,
     winds: &[f64],
 ) -> Answer
-    ghost g: { Given }
-    requires winds_value { given (mesh x.now y.now tri.now h.now kind.now) p next.old elevation winds.now ≡ g }
-    requires fits { Fits g }
-    requires work_len { (length work.old ≡ work_runs * count g) × (length sums.old ≡ count g) × (length winds.now ≡ wind_runs * count g) }
-    ensures { (result ≡ row13 g) × (next.new ≡ cond (eqb result.number 0) (next_state g) next.old) }
+    requires fits { let g : Given = given (mesh x.now y.now tri.now h.now kind.now) p next.old elevation winds.now in Fits g }
+    requires work_len { let g : Given = given (mesh x.now y.now tri.now h.now kind.now) p next.old elevation winds.now in (length work.old ≡ work_runs * count g) × (length sums.old ≡ count g) × (length winds.now ≡ wind_runs * count g) }
+    ensures { let g : Given = given (mesh x.now y.now tri.now h.now kind.now) p next.old elevation winds.now in (result ≡ row13 g) × (next.new ≡ cond (eqb result.number 0) (next_state g) next.old) }
 {
     let answer = working::solve(work, sums, x, y, tri, h, kind, p, next, elevation, winds);
     if answer.number == 0 {

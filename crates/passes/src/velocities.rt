@@ -60,11 +60,9 @@ pub(crate) fn slopes(
     elevation: f64,
     winds: &[f64],
 )
-    ghost g: { Given }
-    requires winds_value { given (mesh x.now y.now tri.now h.now kind.now) p state.now elevation winds.now ≡ g }
-    requires fits { Fits g }
-    requires work_value { work.old ≡ rise_room g }
-    ensures { work.new ≡ slope_room g }
+    requires fits { let g : Given = given (mesh x.now y.now tri.now h.now kind.now) p state.now elevation winds.now in Fits g }
+    requires work_value { let g : Given = given (mesh x.now y.now tri.now h.now kind.now) p state.now elevation winds.now in work.old ≡ rise_room g }
+    ensures { let g : Given = given (mesh x.now y.now tri.now h.now kind.now) p state.now elevation winds.now in work.new ≡ slope_room g }
 {
     let n = x.len();
     let e = tri.len() / 3;
@@ -133,11 +131,9 @@ pub(crate) fn flows(
     elevation: f64,
     winds: &[f64],
 ) -> Answer
-    ghost g: { Given }
-    requires winds_value { given (mesh x.now y.now tri.now h.now kind.now) p state.now elevation winds.now ≡ g }
-    requires fits { Fits g }
-    requires work_value { (work.old ≡ slope_room g) × (sums.now ≡ table (count g) (S g)) × (length winds.now ≡ wind_runs * count g) }
-    ensures { (result ≡ flow_rows g) × (work.new ≡ flow_room g) }
+    requires fits { let g : Given = given (mesh x.now y.now tri.now h.now kind.now) p state.now elevation winds.now in Fits g }
+    requires work_value { let g : Given = given (mesh x.now y.now tri.now h.now kind.now) p state.now elevation winds.now in (work.old ≡ slope_room g) × (sums.now ≡ table (count g) (S g)) × (length winds.now ≡ wind_runs * count g) }
+    ensures { let g : Given = given (mesh x.now y.now tri.now h.now kind.now) p state.now elevation winds.now in (result ≡ flow_rows g) × (work.new ≡ flow_room g) }
 {
     let n = x.len();
     let mut all = true;

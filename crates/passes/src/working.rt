@@ -31,11 +31,9 @@ pub(crate) fn solve(
     elevation: f64,
     winds: &[f64],
 ) -> Answer
-    ghost g: { Given }
-    requires winds_value { given (mesh x.now y.now tri.now h.now kind.now) p state.now elevation winds.now ≡ g }
-    requires fits { Fits g }
-    requires work_len { (length work.old ≡ work_runs * count g) × (length sums.old ≡ count g) × (length winds.now ≡ wind_runs * count g) }
-    ensures { (result ≡ row13 g) × (result.number ≡ 0 → work.new ≡ flow_room g) }
+    requires fits { let g : Given = given (mesh x.now y.now tri.now h.now kind.now) p state.now elevation winds.now in Fits g }
+    requires work_len { let g : Given = given (mesh x.now y.now tri.now h.now kind.now) p state.now elevation winds.now in (length work.old ≡ work_runs * count g) × (length sums.old ≡ count g) × (length winds.now ≡ wind_runs * count g) }
+    ensures { let g : Given = given (mesh x.now y.now tri.now h.now kind.now) p state.now elevation winds.now in (result ≡ row13 g) × (result.number ≡ 0 → work.new ≡ flow_room g) }
 {
     elevations::assemble(work, sums, x, y, tri, h, kind, p, state, elevation, winds);
     let rise = elevations::rises(work, sums, x, y, tri, h, kind, p, state, elevation, winds);
@@ -94,12 +92,10 @@ pub(crate) fn work_out(
     elevation: f64,
     winds: &[f64],
 ) -> Answer
-    ghost g: { Given }
-    requires winds_value { given (mesh x.now y.now tri.now h.now kind.now) p state.now elevation winds.now ≡ g }
-    requires fits { Fits g }
-    requires next_len { (length next.old ≡ state_runs * count g) × (length work.old ≡ work_runs * count g) × (length sums.old ≡ count g) × (length winds.now ≡ wind_runs * count g) }
-    ensures value { (result ≡ row13 g) × (next.new ≡ cond (eqb result.number 0) (next_state g) next.old) }
-    ensures work_after { (work.new ≡ zeros (work_runs * count g)) × (sums.new ≡ table (count g) (λ _. 0)) }
+    requires fits { let g : Given = given (mesh x.now y.now tri.now h.now kind.now) p state.now elevation winds.now in Fits g }
+    requires next_len { let g : Given = given (mesh x.now y.now tri.now h.now kind.now) p state.now elevation winds.now in (length next.old ≡ state_runs * count g) × (length work.old ≡ work_runs * count g) × (length sums.old ≡ count g) × (length winds.now ≡ wind_runs * count g) }
+    ensures value { let g : Given = given (mesh x.now y.now tri.now h.now kind.now) p state.now elevation winds.now in (result ≡ row13 g) × (next.new ≡ cond (eqb result.number 0) (next_state g) next.old) }
+    ensures work_after { let g : Given = given (mesh x.now y.now tri.now h.now kind.now) p state.now elevation winds.now in (work.new ≡ zeros (work_runs * count g)) × (sums.new ≡ table (count g) (λ _. 0)) }
 {
     let answer = solve(work, sums, x, y, tri, h, kind, p, state, elevation, winds);
     if answer.number == 0 {

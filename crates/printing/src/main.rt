@@ -3,15 +3,16 @@
 // read whole: forcelog's law `by_wholes` says that this prints the same as cutting the input at its line feeds. A read that fails is no end of input:
 // nothing is printed then, and standard error says why, as it does of a write that fails.
 #![tactic(auto)]
-ghost use Rattle.std.specs.Prelude.{◌≤◌, ◌≡◌, length};
+ghost use Rattle.std.specs.Prelude.{◌≤◌, ◌≡◌, length, IfOk};
 ghost use Rattle.io.specs.Counts.{IsPrefixLen};
 ghost use Rattle.forcelog.specs.Printed.{ending, due_of};
 ghost use Rattle.forcelog.specs.Private.{Savable};
 
 use forcelog::Log;
 use frames::reading;
-use libc::{STDIN_FILENO, STDOUT_FILENO};
 use rows::Answer;
+use std::io;
+use std::io::Read;
 
 // The save at the end: it is never refused, so the room is full.
 fn save_text(log: Log) -> [u8; 442]
@@ -23,41 +24,29 @@ fn save_text(log: Log) -> [u8; 442]
     text
 }
 
-// How many bytes of a text are there, and whether the read that ended them failed.
-#[derive(Clone, Copy)]
-struct Got {
-    len: usize,
-    failed: bool,
-}
-
-// One read into a text's bytes `from` to `to`: it adds nothing where the input ends or the read fails.
-fn read_part(text: &mut [u8], from: usize, to: usize) -> Got
+// One read into a text's bytes `from` to `to`: it adds nothing where the input ends. How many bytes are there then.
+fn read_part<R: Read>(reader: &mut R, text: &mut [u8], from: usize, to: usize) -> io::Result<usize>
     requires { (from ≤ to) × (to ≤ length text.old) }
-    ensures { (from ≤ result.len) × (result.len ≤ to) }
+    ensures { IfOk result (λ len. (from ≤ len) × (len ≤ to)) }
 {
-    let rest = &mut text[from..to];
-    let got = libc::read(STDIN_FILENO, rest);
-    let more = io::count(got, rest);
-    Got {
-        len: from + more,
-        failed: got < 0,
-    }
+    let more = reader.read(&mut text[from..to])?;
+    Ok(from + more)
 }
 
-// Reads on from byte `from` until `to` bytes are there, the input ends or a read fails.
-fn read_to(text: &mut [u8], from: usize, to: usize) -> Got
+// Reads on from byte `from` until `to` bytes are there or the input ends.
+fn read_to<R: Read>(reader: &mut R, text: &mut [u8], from: usize, to: usize) -> io::Result<usize>
     requires { (from ≤ to) × (to ≤ length text.old) }
-    ensures { IsPrefixLen result.len text.new }
+    ensures { IfOk result (λ len. IsPrefixLen len text.new) }
 {
     let mut len = from;
     while len < to {
-        let got = read_part(text, len, to);
-        if got.len == len {
-            return got;
+        let now = read_part(reader, text, len, to)?;
+        if now == len {
+            return Ok(len);
         }
-        len = got.len;
+        len = now;
     }
-    Got { len, failed: false }
+    Ok(len)
 }
 
 // How many bytes a forcing has that starts so.
@@ -71,55 +60,54 @@ fn due(text: &[u8]) -> usize
 }
 
 // Reads a whole forcing: 57 bytes, which every forcing has, and then on to as many as its first two say.
-fn read_whole(text: &mut [u8]) -> Got
+fn read_whole<R: Read>(reader: &mut R, text: &mut [u8]) -> io::Result<usize>
     requires { length text.old ≡ 148 }
-    ensures { IsPrefixLen result.len text.new }
+    ensures { IfOk result (λ len. IsPrefixLen len text.new) }
 {
-    let start = read_to(text, 0, 57);
-    if start.len < 57 {
-        return start;
+    let start = read_to(reader, text, 0, 57)?;
+    if start < 57 {
+        return Ok(start);
     }
     let to = due(text);
-    read_to(text, 57, to)
+    read_to(reader, text, 57, to)
 }
 
-fn say_unread() {
-    os::fail(b"printing: cannot read standard input");
+fn say_unread(rt: &impl Eprint, error: io::Error) -> io::Result<()> {
+    eprintln!(rt; "printing: cannot read standard input: {error}")
 }
 
-fn print(text: &[u8]) {
-    if !io::write_all(STDOUT_FILENO, text) {
-        os::fail(b"printing: cannot write standard output");
+fn print(rt: &(impl Print + Eprint), text: &[u8]) -> io::Result<()> {
+    if let Err(error) = rt.write_all(text) {
+        eprintln!(rt; "printing: cannot write standard output: {error}")?;
     }
+    Ok(())
 }
 
-fn print_refusal(answer: Answer) {
+fn print_refusal(rt: &(impl Print + Eprint), answer: Answer) -> io::Result<()> {
     let words = refusals::refusal(answer);
     let bytes = words.bytes;
     let len = words.len;
-    print(&bytes[..len]);
+    print(rt, &bytes[..len])
 }
 
-fn main() {
+// The error that it ends with is of standard error, where a failed read or write is told.
+fn main(rt: HostRuntime) -> io::Result<()> {
+    let mut reader = rt.stdin();
     let mut log = forcelog::cold();
     loop {
         let mut text = [0u8; 148];
-        let got = read_whole(&mut text);
-        if got.failed {
-            say_unread();
-            return;
-        }
-        let n = got.len;
+        let n = match read_whole(&mut reader, &mut text) {
+            Ok(n) => n,
+            Err(error) => return say_unread(&rt, error),
+        };
         if n == 0 {
             let save = save_text(log);
-            print(&save);
-            return;
+            return print(&rt, &save);
         }
         let took = forcelog::take(&text[..n], log);
         let answer = took.answer;
         if answer.number != 0 {
-            print_refusal(answer);
-            return;
+            return print_refusal(&rt, answer);
         }
         log = took.log;
     }

@@ -1,5 +1,6 @@
 // The text of a refusal, as the printing program prints it.
 #![tactic(auto)]
+
 ghost use Rattle.std.specs.Prelude.{◌≡◌};
 ghost use Rattle.refusals.specs.Refusals.{refusal, words};
 ghost use Rattle.refusals.specs.Private.{joined};

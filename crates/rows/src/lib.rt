@@ -1,5 +1,6 @@
 // What a row of the refusal table answers.
 #![tactic(auto)]
+
 ghost use Rattle.std.specs.Prelude.{◌≡◌};
 ghost use Rattle.rows.specs.Numbers.{within};
 ghost use Rattle.rows.specs.Scan.{accepted, refused, row, ◌then◌};

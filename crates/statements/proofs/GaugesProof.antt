@@ -32,14 +32,14 @@ peak_says r g = record { answer = refl; accepted = λ h. rw (eq-eqb _ _ h); refu
 
 pub gauge_demands : GaugeDemands
 gauge_demands = record {
-  gauges_gauge_locate = λ κs a x v met. subst (LocateSays _ _) (sym met) (locate_says _ _);
-  gauges_gauge_add = λ κs a x v met. subst (AddSays _ _ _) (sym met) (add_says _ _ _);
-  gauges_gauge_elevation = λ κs a x v met. subst (MeasureSays _ _ _) (sym met) (measure_says _ _ _);
-  gauges_gauge_update = λ κs a x v met. subst (UpdateSays _ _ _) (sym met) (update_says _ _ _);
-  gauges_gauge_peak = λ κs a x v met. subst (PeakSays _ _) (sym met) (peak_says _ _);
-  gauges_gauge_locate_is = λ κs a x v met. met;
-  gauges_gauge_add_is = λ κs a x v met. met;
-  gauges_gauge_elevation_is = λ κs a x v met. met;
-  gauges_gauge_update_is = λ κs a x v met. met;
-  gauges_gauge_peak_is = λ κs a x v met. met;
+  gauges_gauge_locate = λ κs a g x v met. subst (LocateSays _ _) (sym met) (locate_says _ _);
+  gauges_gauge_add = λ κs a g x v met. subst (AddSays _ _ _) (sym met) (add_says _ _ _);
+  gauges_gauge_elevation = λ κs a g x v met. subst (MeasureSays _ _ _) (sym met) (measure_says _ _ _);
+  gauges_gauge_update = λ κs a g x v met. subst (UpdateSays _ _ _) (sym met) (update_says _ _ _);
+  gauges_gauge_peak = λ κs a g x v met. subst (PeakSays _ _) (sym met) (peak_says _ _);
+  gauges_gauge_locate_is = λ κs a g x v met. met;
+  gauges_gauge_add_is = λ κs a g x v met. met;
+  gauges_gauge_elevation_is = λ κs a g x v met. met;
+  gauges_gauge_update_is = λ κs a g x v met. met;
+  gauges_gauge_peak_is = λ κs a g x v met. met;
 }

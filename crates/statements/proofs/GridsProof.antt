@@ -9,8 +9,7 @@ use Rattle.surge.specs.Step.{step_of}
 use Rattle.grids.specs.Grid.{Grid, with_kinds, grid_mesh, read_of}
 use Rattle.demands.specs.Demand3.{cold_run}
 use Rattle.demands.proofs.Demand3Proof.{demand3_at_surge, opens_cold}
-use Rattle.statements.specs.Grids.{GridSays, GridDemands}
-use Rattle.statements.specs.MeshesRead.{mesh_left, OnTheMesh, RunsOnMeshesRead}
+use Rattle.statements.specs.Grids.{GridSays, GridDemands, mesh_left, OnTheMesh, RunsOnMeshesRead}
 
 grid_says : (r : Grid) (t : List ℕ) → GridSays r t (read_of r t)
 unfolding read_of
@@ -18,10 +17,10 @@ grid_says r t = record { answer = refl; accepted = λ h. rw (eq-eqb _ _ h); refu
 
 pub grid_demands : GridDemands
 grid_demands = record {
-  grids_read_grid = λ κs a x v met. subst (GridSays _ _) (sym met) (grid_says _ _);
-  capi_surge_read_grid = λ κs a x v met. subst (GridSays _ _) (sym met) (grid_says _ _);
-  grids_read_grid_is = λ κs a x v met. met;
-  capi_surge_read_grid_is = λ κs a x v met. met;
+  grids_read_grid = λ κs a g x v met. subst (GridSays _ _) (sym met) (grid_says _ _);
+  capi_surge_read_grid = λ κs a g x v met. subst (GridSays _ _) (sym met) (grid_says _ _);
+  grids_read_grid_is = λ κs a g x v met. met;
+  capi_surge_read_grid_is = λ κs a g x v met. met;
 }
 
 -- what holds of the mesh of the text holds of a mesh that is it

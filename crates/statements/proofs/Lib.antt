@@ -2,4 +2,3 @@ pub mod Outcomes
 pub mod PrintingProof
 pub mod GridsProof
 pub mod GaugesProof
-pub mod Every

@@ -23,207 +23,207 @@ same p q = p ∙ sym q
 
 pub each_determined : EachDetermined
 each_determined = record {
-  rows_accept_determined = λ κs a x y v w p q. (same p q, refl);
-  rows_refuse_determined = λ κs a x y v w p q. (same p q, refl);
-  rows_tested_determined = λ κs a x y v w p q. (same p q, refl);
-  rows_first_determined = λ κs a x y v w p q. (same p q, refl);
-  rows_in_range_determined = λ κs a x y v w p q. (same p q, refl);
-  lists_slices_is_runs_determined = λ κs a x y v w p q. (same p q, refl);
-  lists_slices_clear_determined = λ κs a x y v w p q. (refl, λ i. (same p q i, tt));
-  lists_slices_clear_whole_determined = λ κs a x y v w p q. (refl, λ i. (same p q i, tt));
-  lists_slices_copy_determined = λ κs a x y v w p q. (refl, λ i. (same p q i, (tt, tt)));
-  triangle_slope_determined = λ κs a x y v w p q. (same p q, refl);
-  triangle_means_of_determined = λ κs a x y v w p q. (same p q, refl);
-  triangle_advection_of_determined = λ κs a x y v w p q. (same p q, refl);
-  elevation_shares_determined = λ κs a x y v w p q. (same p q, refl);
-  elevation_rise_of_determined = λ κs a x y v w p q. (same p q, refl);
-  velocity_flow_of_determined = λ κs a x y v w p q. (same p q, refl);
-  outcomes_rise_row_determined = λ κs a x y v w p q. (same p q, refl);
-  outcomes_flow_row_determined = λ κs a x y v w p q. (same p q, refl);
-  limits_is_node_determined = λ κs a x y v w p q. (same p q, refl);
-  limits_parameters_determined = λ κs a x y v w p q. (same p q, refl);
-  limits_in_bounds_determined = λ κs a x y v w p q. (same p q, refl);
-  limits_may_count_determined = λ κs a x y v w p q. (same p q, refl);
-  limits_is_calm_determined = λ κs a x y v w p q. (same p q, refl);
-  limits_elevation_determined = λ κs a x y v w p q. (same p q, refl);
-  patterns_pattern_of_determined = λ κs a x y v w p q. (same p q, refl);
-  patterns_float_of_determined = λ κs a x y v w p q. (same p q, refl);
-  frames_digits_tallied_determined = λ κs a x y v w p q. (same p q, refl);
-  frames_reading_value_determined = λ κs a x y v w p q. (same p q, refl);
-  frames_reading_float_at_determined = λ κs a x y v w p q. (same p q, refl);
-  frames_reading_values_determined = λ κs a x y v w p q. (same p q, refl);
-  frames_reading_part_determined = λ κs a x y v w p q. (same p q, refl);
-  frames_reading_starts_determined = λ κs a x y v w p q. (same p q, refl);
-  faults_fault_determined = λ κs a x y v w p q. (same p q, refl);
-  editions_edition_of_determined = λ κs a x y v w p q. (lines_apart x y (same p q), refl);
-  editions_due_determined = λ κs a x y v w p q. (λ i. record { digits = same p.0 q.0 i; kind = same p.1 q.1 i }, refl);
-  editions_node_wind_determined = λ κs a x y v w p q. (same p q, refl);
-  editions_line_row_determined = λ κs a x y v w p q. (same p q, refl);
-  lines_line_begin_determined = λ κs a x y v w p q. (same p q, refl);
-  lines_line_append_determined = λ κs a x y v w p q. (same p q, refl);
-  lines_line_seal_determined = λ κs a x y v w p q. (same p q, refl);
-  lines_put_determined = λ κs a x y v w p q.
+  rows_accept_determined = λ κs a g x y v w p q. (same p q, refl);
+  rows_refuse_determined = λ κs a g x y v w p q. (same p q, refl);
+  rows_tested_determined = λ κs a g x y v w p q. (same p q, refl);
+  rows_first_determined = λ κs a g x y v w p q. (same p q, refl);
+  rows_in_range_determined = λ κs a g x y v w p q. (same p q, refl);
+  lists_slices_is_runs_determined = λ κs a g x y v w p q. (same p q, refl);
+  lists_slices_clear_determined = λ κs a g x y v w p q. (refl, λ i. (same p q i, tt));
+  lists_slices_clear_whole_determined = λ κs a g x y v w p q. (refl, λ i. (same p q i, tt));
+  lists_slices_copy_determined = λ κs a g x y v w p q. (refl, λ i. (same p q i, (tt, tt)));
+  triangle_slope_determined = λ κs a g x y v w p q. (same p q, refl);
+  triangle_means_of_determined = λ κs a g x y v w p q. (same p q, refl);
+  triangle_advection_of_determined = λ κs a g x y v w p q. (same p q, refl);
+  elevation_shares_determined = λ κs a g x y v w p q. (same p q, refl);
+  elevation_rise_of_determined = λ κs a g x y v w p q. (same p q, refl);
+  velocity_flow_of_determined = λ κs a g x y v w p q. (same p q, refl);
+  outcomes_rise_row_determined = λ κs a g x y v w p q. (same p q, refl);
+  outcomes_flow_row_determined = λ κs a g x y v w p q. (same p q, refl);
+  limits_is_node_determined = λ κs a g x y v w p q. (same p q, refl);
+  limits_parameters_determined = λ κs a g x y v w p q. (same p q, refl);
+  limits_in_bounds_determined = λ κs a g x y v w p q. (same p q, refl);
+  limits_may_count_determined = λ κs a g x y v w p q. (same p q, refl);
+  limits_is_calm_determined = λ κs a g x y v w p q. (same p q, refl);
+  limits_elevation_determined = λ κs a g x y v w p q. (same p q, refl);
+  patterns_pattern_of_determined = λ κs a g x y v w p q. (same p q, refl);
+  patterns_float_of_determined = λ κs a g x y v w p q. (same p q, refl);
+  frames_digits_tallied_determined = λ κs a g x y v w p q. (same p q, refl);
+  frames_reading_value_determined = λ κs a g x y v w p q. (same p q, refl);
+  frames_reading_float_at_determined = λ κs a g x y v w p q. (same p q, refl);
+  frames_reading_values_determined = λ κs a g x y v w p q. (same p q, refl);
+  frames_reading_part_determined = λ κs a g x y v w p q. (same p q, refl);
+  frames_reading_starts_determined = λ κs a g x y v w p q. (same p q, refl);
+  faults_fault_determined = λ κs a g x y v w p q. (same p q, refl);
+  editions_edition_of_determined = λ κs a g x y v w p q. (lines_apart x y (same p q), refl);
+  editions_due_determined = λ κs a g x y v w p q. (λ i. record { digits = same p.0 q.0 i; kind = same p.1 q.1 i }, refl);
+  editions_node_wind_determined = λ κs a g x y v w p q. (same p q, refl);
+  editions_line_row_determined = λ κs a g x y v w p q. (same p q, refl);
+  lines_line_begin_determined = λ κs a g x y v w p q. (same p q, refl);
+  lines_line_append_determined = λ κs a g x y v w p q. (same p q, refl);
+  lines_line_seal_determined = λ κs a g x y v w p q. (same p q, refl);
+  lines_put_determined = λ κs a g x y v w p q.
       let e : put_out x v.0 ≡ put_out y w.0 = same p q in
       (ap (λ (o : Put). o.next) e, λ i. ((e i).text, (tt, (tt, tt))));
-  crossing_number_at_determined = λ κs a x y v w p q. (same p.0 q.0, refl);
-  crossing_put_number_determined = λ κs a x y v w p q. (refl, λ i. (same p q i, (tt, (tt, (tt, tt)))));
-  crossing_pattern_32_determined = λ κs a x y v w p q. (same p q, refl);
-  crossing_int_at_determined = λ κs a x y v w p q. (same p q, refl);
-  crossing_ints_into_determined = λ κs a x y v w p q. (refl, λ i. (same p q i, (tt, tt)));
-  crossing_words_into_determined = λ κs a x y v w p q. (refl, λ i. (same p q i, (tt, tt)));
-  crossing_floats_into_determined = λ κs a x y v w p q. (refl, λ i. (same p q i, (tt, tt)));
-  geometry_sides_of_determined = λ κs a x y v w p q. (same p q, refl);
-  geometry_all_near_determined = λ κs a x y v w p q. (same p q, refl);
-  geometry_twice_area_determined = λ κs a x y v w p q. (same p q, refl);
-  geometry_sum_of_determined = λ κs a x y v w p q. (same p q, refl);
-  mesh_reading_corners_at_determined = λ κs a x y v w p q. (same p q, refl);
-  mesh_reading_places_at_determined = λ κs a x y v w p q. (same p q, refl);
-  mesh_size_rows_determined = λ κs a x y v w p q. (same p q, refl);
-  mesh_shape_rows_determined = λ κs a x y v w p q. (same p q, refl);
-  legs_leg_rows_determined = λ κs a x y v w p q. (same p q, refl);
-  areas_twice_areas_determined = λ κs a x y v w p q. (same p q, refl);
-  nodes_mesh_rows_determined = λ κs a x y v w p q. (same p q, refl);
-  nodes_open_rows_determined = λ κs a x y v w p q. (same p q, refl);
-  bounds_run_rows_determined = λ κs a x y v w p q. (same p q, refl);
-  bounds_forced_rows_determined = λ κs a x y v w p q. (same p q, refl);
-  bounds_weather_rows_determined = λ κs a x y v w p q. (same p q, refl);
-  bounds_list_rows_determined = λ κs a x y v w p q. (same p q, refl);
-  location_nothing_determined = λ κs a x y v w p q. (same p q, refl);
-  location_survey_determined = λ κs a x y v w p q. (same p q, refl);
-  looking_look_determined = λ κs a x y v w p q. (same p q, refl);
-  looking_look_at_determined = λ κs a x y v w p q. (same p q, refl);
-  keeping_point_at_determined = λ κs a x y v w p q. (same p q, refl);
-  keeping_mark_at_determined = λ κs a x y v w p q. (same p q, refl);
-  keeping_points_determined = λ κs a x y v w p q. (same p q, refl);
-  keeping_number_rows_determined = λ κs a x y v w p q. (same p q, refl);
-  keeping_add_determined = λ κs a x y v w p q.
+  crossing_number_at_determined = λ κs a g x y v w p q. (same p.0 q.0, refl);
+  crossing_put_number_determined = λ κs a g x y v w p q. (refl, λ i. (same p q i, (tt, (tt, (tt, tt)))));
+  crossing_pattern_32_determined = λ κs a g x y v w p q. (same p q, refl);
+  crossing_int_at_determined = λ κs a g x y v w p q. (same p q, refl);
+  crossing_ints_into_determined = λ κs a g x y v w p q. (refl, λ i. (same p q i, (tt, tt)));
+  crossing_words_into_determined = λ κs a g x y v w p q. (refl, λ i. (same p q i, (tt, tt)));
+  crossing_floats_into_determined = λ κs a g x y v w p q. (refl, λ i. (same p q i, (tt, tt)));
+  geometry_sides_of_determined = λ κs a g x y v w p q. (same p q, refl);
+  geometry_all_near_determined = λ κs a g x y v w p q. (same p q, refl);
+  geometry_twice_area_determined = λ κs a g x y v w p q. (same p q, refl);
+  geometry_sum_of_determined = λ κs a g x y v w p q. (same p q, refl);
+  mesh_reading_corners_at_determined = λ κs a g x y v w p q. (same p q, refl);
+  mesh_reading_places_at_determined = λ κs a g x y v w p q. (same p q, refl);
+  mesh_size_rows_determined = λ κs a g x y v w p q. (same p q, refl);
+  mesh_shape_rows_determined = λ κs a g x y v w p q. (same p q, refl);
+  legs_leg_rows_determined = λ κs a g x y v w p q. (same p q, refl);
+  areas_twice_areas_determined = λ κs a g x y v w p q. (same p q, refl);
+  nodes_mesh_rows_determined = λ κs a g x y v w p q. (same p q, refl);
+  nodes_open_rows_determined = λ κs a g x y v w p q. (same p q, refl);
+  bounds_run_rows_determined = λ κs a g x y v w p q. (same p q, refl);
+  bounds_forced_rows_determined = λ κs a g x y v w p q. (same p q, refl);
+  bounds_weather_rows_determined = λ κs a g x y v w p q. (same p q, refl);
+  bounds_list_rows_determined = λ κs a g x y v w p q. (same p q, refl);
+  location_nothing_determined = λ κs a g x y v w p q. (same p q, refl);
+  location_survey_determined = λ κs a g x y v w p q. (same p q, refl);
+  looking_look_determined = λ κs a g x y v w p q. (same p q, refl);
+  looking_look_at_determined = λ κs a g x y v w p q. (same p q, refl);
+  keeping_point_at_determined = λ κs a g x y v w p q. (same p q, refl);
+  keeping_mark_at_determined = λ κs a g x y v w p q. (same p q, refl);
+  keeping_points_determined = λ κs a g x y v w p q. (same p q, refl);
+  keeping_number_rows_determined = λ κs a g x y v w p q. (same p q, refl);
+  keeping_add_determined = λ κs a g x y v w p q.
       let e : add_out x v.0 ≡ add_out y w.0 = same p q in
       (ap (λ (o : AddOut). o.given) e, λ i. ((e i).left, (tt, (tt, (tt, tt)))));
-  keeping_update_determined = λ κs a x y v w p q.
+  keeping_update_determined = λ κs a g x y v w p q.
       let e : update_out x v.0 ≡ update_out y w.0 = same p q in
       (ap (λ (o : UpdateOut). o.answer) e, λ i. ((e i).left, (tt, (tt, (tt, (tt, tt))))));
-  gauges_gauge_locate_determined = λ κs a x y v w p q.
+  gauges_gauge_locate_determined = λ κs a g x y v w p q.
       let e : located (G.answer x v.1.0 v.1.1.0) v.0 ≡ located (G.answer y w.1.0 w.1.1.0) w.0 = same p q in (
         ap (λ (o : Located). o.answer.number) e,
         λ i. ((e i).triangle, ((e i).answer.place, ((e i).answer.value, (tt, (tt, (tt, (tt, (tt, (tt, (tt, (tt, (tt, (tt, (tt, (tt, tt))))))))))))))),
       );
-  gauges_gauge_add_determined = λ κs a x y v w p q.
+  gauges_gauge_add_determined = λ κs a g x y v w p q.
       let e : add_out (given (G.answer x v.1.1.0 v.1.1.1.0) v.1.0) v.0 ≡ add_out (given (G.answer y w.1.1.0 w.1.1.1.0) w.1.0) w.0 = same p q in (
         ap (λ (o : AddOut). o.given.answer.number) e,
         λ i. ((e i).left, ((e i).given.gauge, ((e i).given.answer.place, ((e i).given.answer.value, (tt, (tt, (tt, (tt, (tt, (tt, (tt, (tt, (tt, (tt, (tt, (tt, tt)))))))))))))))),
       );
-  gauges_gauge_elevation_determined = λ κs a x y v w p q.
+  gauges_gauge_elevation_determined = λ κs a g x y v w p q.
       let e : measured (G.answer x v.1.0 v.1.1.0) v.0 ≡ measured (G.answer y w.1.0 w.1.1.0) w.0 = same p q in (
         ap (λ (o : Measured). o.answer.number) e,
         λ i. ((e i).level, ((e i).answer.place, ((e i).answer.value, (tt, (tt, (tt, (tt, (tt, (tt, (tt, (tt, (tt, (tt, (tt, (tt, tt))))))))))))))),
       );
-  gauges_gauge_update_determined = λ κs a x y v w p q.
+  gauges_gauge_update_determined = λ κs a g x y v w p q.
       let e : update_out (G.answer x v.1.0 v.1.1.0) v.0 ≡ update_out (G.answer y w.1.0 w.1.1.0) w.0 = same p q in (
         ap (λ (o : UpdateOut). o.answer.number) e,
         λ i. ((e i).left, ((e i).answer.place, ((e i).answer.value, (tt, (tt, (tt, (tt, (tt, (tt, (tt, (tt, (tt, (tt, (tt, tt)))))))))))))),
       );
-  gauges_gauge_peak_determined = λ κs a x y v w p q.
+  gauges_gauge_peak_determined = λ κs a g x y v w p q.
       let e : peaked (G.answer x v.1.1.1.0 v.1.1.1.1.0) (mark v.0 v.1.0 v.1.1.0) ≡ peaked (G.answer y w.1.1.1.0 w.1.1.1.1.0) (mark w.0 w.1.0 w.1.1.0) = same p q in (
         ap (λ (o : Peaked). o.answer.number) e,
         λ i. ((e i).mark.seen, ((e i).mark.peak, ((e i).mark.step, ((e i).answer.place, ((e i).answer.value, (tt, (tt, tt))))))),
       );
-  passes_settle_determined = λ κs a x y v w p q.
+  passes_settle_determined = λ κs a g x y v w p q.
       let e : settled x v.0 v.1.0 v.1.1.0 ≡ settled y w.0 w.1.0 w.1.1.0 = same p q in
       (ap (λ (o : Settled). o.answer) e, λ i. ((e i).rooms.next, ((e i).rooms.work, ((e i).rooms.sums, (tt, (tt, (tt, (tt, (tt, (tt, (tt, (tt, (tt, tt)))))))))))));
-  passes_settle_all_determined = λ κs a x y v w p q.
+  passes_settle_all_determined = λ κs a g x y v w p q.
       let e : turns x v.0 v.1.0 v.1.1.0 ≡ turns y w.0 w.1.0 w.1.1.0 = same p q in (
         λ i. record { answer = (e i).last.answer; step = (e i).last.step; accepted = (e i).accepted },
         λ i. ((e i).last.rooms.next, ((e i).last.rooms.work, ((e i).last.rooms.sums, (tt, (tt, (tt, (tt, (tt, (tt, (tt, (tt, (tt, tt)))))))))))),
       );
-  surge_open_determined = λ κs a x y v w p q.
+  surge_open_determined = λ κs a g x y v w p q.
       let e : after x v.0 ≡ after y w.0 = same p q in
       (ap (λ (o : After). o.reply) e, λ i. ((e i).state, (tt, (tt, (tt, (tt, (tt, (tt, tt))))))));
-  surge_step_determined = λ κs a x y v w p q.
+  surge_step_determined = λ κs a g x y v w p q.
       let e : step_out x v.0 v.1.0 v.1.1.0 ≡ step_out y w.0 w.1.0 w.1.1.0 = same p q in (
         ap (λ (o : StepOut). o.reply) e,
         λ i. ((e i).rooms.next, ((e i).rooms.work, ((e i).rooms.sums, (tt, (tt, (tt, (tt, (tt, (tt, (tt, (tt, (tt, tt)))))))))))),
       );
-  surge_step_all_determined = λ κs a x y v w p q.
+  surge_step_all_determined = λ κs a g x y v w p q.
       let e : list_out x v.0 v.1.0 v.1.1.0 ≡ list_out y w.0 w.1.0 w.1.1.0 = same p q in (
         λ i. list_reply (reply (e i).last.answer (clock (e i).last.step)) (e i).accepted,
         λ i. ((e i).last.rooms.next, ((e i).last.rooms.work, ((e i).last.rooms.sums, (tt, (tt, (tt, (tt, (tt, (tt, (tt, (tt, (tt, tt)))))))))))),
       );
-  grids_read_grid_determined = λ κs a x y v w p q.
+  grids_read_grid_determined = λ κs a g x y v w p q.
       let e : read_out x (grid v.0 v.1.0 v.1.1.0 v.1.1.1.0) ≡ read_out y (grid w.0 w.1.0 w.1.1.0 w.1.1.1.0) = same p q in
       (ap (λ (o : ReadOut). o.answer) e, λ i. ((e i).rooms.x, ((e i).rooms.y, ((e i).rooms.h, ((e i).rooms.tri, (tt, tt))))));
-  forcings_read_forcing_determined = λ κs a x y v w p q.
+  forcings_read_forcing_determined = λ κs a g x y v w p q.
       let e : taken x v.0 ≡ taken y w.0 = same p q in
       (ap (λ (o : Taken). o.answer) e, λ i. ((e i).room, (tt, (tt, tt))));
-  saves_save_determined = λ κs a x y v w p q.
+  saves_save_determined = λ κs a g x y v w p q.
       let e : save_out x v.0 ≡ save_out y w.0 = same p q in
       (ap (λ (o : SaveOut). o.answer) e, λ i. ((e i).text, (tt, (tt, (tt, (tt, (tt, (tt, (tt, (tt, tt))))))))));
-  loads_load_determined = λ κs a x y v w p q.
+  loads_load_determined = λ κs a g x y v w p q.
       let e : after x v.0 ≡ after y w.0 = same p q in
       (ap (λ (o : After). o.reply) e, λ i. ((e i).state, (tt, (tt, (tt, (tt, (tt, (tt, (tt, (tt, tt))))))))));
-  capi_surge_open_determined = λ κs a x y v w p q.
+  capi_surge_open_determined = λ κs a g x y v w p q.
       let e : after (reply (answer x v.1.0 v.1.1.0) (clock v.1.1.1.0)) v.0 ≡ after (reply (answer y w.1.0 w.1.1.0) (clock w.1.1.1.0)) w.0 = same p q in (
         ap (λ (o : After). o.reply.answer.number) e,
         λ i. ((e i).state, ((e i).reply.answer.place, ((e i).reply.answer.value, ((e i).reply.clock.step, (tt, (tt, (tt, (tt, (tt, (tt, (tt, (tt, (tt, (tt, tt)))))))))))))),
       );
-  capi_surge_step_determined = λ κs a x y v w p q.
+  capi_surge_step_determined = λ κs a g x y v w p q.
       let e : step_out (reply (answer x v.1.1.1.0 v.1.1.1.1.0) (clock v.1.1.1.1.1.0)) v.0 v.1.0 v.1.1.0 ≡ step_out (reply (answer y w.1.1.1.0 w.1.1.1.1.0) (clock w.1.1.1.1.1.0)) w.0 w.1.0 w.1.1.0 = same p q in (
         ap (λ (o : StepOut). o.reply.answer.number) e,
         λ i. ((e i).rooms.next, ((e i).rooms.work, ((e i).rooms.sums, ((e i).reply.answer.place, ((e i).reply.answer.value, ((e i).reply.clock.step, (tt, (tt, (tt, (tt, (tt, (tt, (tt, (tt, (tt, (tt, (tt, (tt, tt)))))))))))))))))),
       );
-  capi_surge_step_all_determined = λ κs a x y v w p q.
+  capi_surge_step_all_determined = λ κs a g x y v w p q.
       let e : list_out (list_reply (reply (answer x v.1.1.1.0 v.1.1.1.1.0) (clock v.1.1.1.1.1.0)) v.1.1.1.1.1.1.0) v.0 v.1.0 v.1.1.0 ≡ list_out (list_reply (reply (answer y w.1.1.1.0 w.1.1.1.1.0) (clock w.1.1.1.1.1.0)) w.1.1.1.1.1.1.0) w.0 w.1.0 w.1.1.0 = same p q in (
         ap (λ (o : Turns). o.last.answer.number) e,
         λ i. ((e i).last.rooms.next, ((e i).last.rooms.work, ((e i).last.rooms.sums, ((e i).last.answer.place, ((e i).last.answer.value, ((e i).last.step, ((e i).accepted, (tt, (tt, (tt, (tt, (tt, (tt, (tt, (tt, (tt, (tt, (tt, (tt, tt))))))))))))))))))),
       );
-  capi_surge_save_determined = λ κs a x y v w p q.
+  capi_surge_save_determined = λ κs a g x y v w p q.
       let e : save_out (answer x v.1.0 v.1.1.0) v.0 ≡ save_out (answer y w.1.0 w.1.1.0) w.0 = same p q in (
         ap (λ (o : SaveOut). o.answer.number) e,
         λ i. ((e i).text, ((e i).answer.place, ((e i).answer.value, (tt, (tt, (tt, (tt, (tt, (tt, (tt, (tt, (tt, (tt, (tt, (tt, tt))))))))))))))),
       );
-  capi_surge_load_determined = λ κs a x y v w p q.
+  capi_surge_load_determined = λ κs a g x y v w p q.
       let e : after (reply (answer x v.1.0 v.1.1.0) (clock v.1.1.1.0)) v.0 ≡ after (reply (answer y w.1.0 w.1.1.0) (clock w.1.1.1.0)) w.0 = same p q in (
         ap (λ (o : After). o.reply.answer.number) e,
         λ i. ((e i).state, ((e i).reply.answer.place, ((e i).reply.answer.value, ((e i).reply.clock.step, (tt, (tt, (tt, (tt, (tt, (tt, (tt, (tt, (tt, (tt, (tt, tt))))))))))))))),
       );
-  capi_surge_read_forcing_determined = λ κs a x y v w p q.
+  capi_surge_read_forcing_determined = λ κs a g x y v w p q.
       let e : taken (answer x v.1.0 v.1.1.0) v.0 ≡ taken (answer y w.1.0 w.1.1.0) w.0 = same p q in (
         ap (λ (o : Taken). o.answer.number) e,
         λ i. ((e i).room, ((e i).answer.place, ((e i).answer.value, (tt, (tt, tt))))),
       );
-  capi_surge_read_grid_determined = λ κs a x y v w p q.
+  capi_surge_read_grid_determined = λ κs a g x y v w p q.
       let e : read_out (answer x v.1.1.1.1.0 v.1.1.1.1.1.0) (grid v.0 v.1.0 v.1.1.0 v.1.1.1.0) ≡ read_out (answer y w.1.1.1.1.0 w.1.1.1.1.1.0) (grid w.0 w.1.0 w.1.1.0 w.1.1.1.0) = same p q in (
         ap (λ (o : ReadOut). o.answer.number) e,
         λ i. ((e i).rooms.x, ((e i).rooms.y, ((e i).rooms.h, ((e i).rooms.tri, ((e i).answer.place, ((e i).answer.value, (tt, tt))))))),
       );
-  refusals_refusal_determined = λ κs a x y v w p q. (same p q, refl);
-  forcelog_cold_determined = λ κs a x y v w p q. (same p q, refl);
-  forcelog_take_determined = λ κs a x y v w p q. (same p q, refl);
-  forcelog_end_determined = λ κs a x y v w p q.
+  refusals_refusal_determined = λ κs a g x y v w p q. (same p q, refl);
+  forcelog_cold_determined = λ κs a g x y v w p q. (same p q, refl);
+  forcelog_take_determined = λ κs a g x y v w p q. (same p q, refl);
+  forcelog_end_determined = λ κs a g x y v w p q.
       let e : save_out x v.0 ≡ save_out y w.0 = same p q in
       (ap (λ (o : SaveOut). o.answer) e, λ i. ((e i).text, (tt, tt)));
 }
 
 pub each_call_asks_nothing : EachCallAsksNothing
 each_call_asks_nothing = record {
-  surge_open_asks_nothing = λ _ _. tt;
-  surge_step_asks_nothing = λ _ _. tt;
-  surge_step_all_asks_nothing = λ _ _. tt;
-  saves_save_asks_nothing = λ _ _. tt;
-  loads_load_asks_nothing = λ _ _. tt;
-  grids_read_grid_asks_nothing = λ _ _. tt;
-  forcings_read_forcing_asks_nothing = λ _ _. tt;
-  forcelog_take_asks_nothing = λ _ _. tt;
-  forcelog_end_asks_nothing = λ _ _. tt;
-  capi_surge_open_asks_nothing = λ _ _. tt;
-  capi_surge_step_asks_nothing = λ _ _. tt;
-  capi_surge_step_all_asks_nothing = λ _ _. tt;
-  capi_surge_save_asks_nothing = λ _ _. tt;
-  capi_surge_load_asks_nothing = λ _ _. tt;
-  capi_surge_read_forcing_asks_nothing = λ _ _. tt;
-  capi_surge_read_grid_asks_nothing = λ _ _. tt;
-  gauges_gauge_locate_asks_nothing = λ _ _. tt;
-  gauges_gauge_add_asks_nothing = λ _ _. tt;
-  gauges_gauge_elevation_asks_nothing = λ _ _. tt;
-  gauges_gauge_update_asks_nothing = λ _ _. tt;
-  gauges_gauge_peak_asks_nothing = λ _ _. tt;
+  surge_open_asks_nothing = λ _ _ _. tt;
+  surge_step_asks_nothing = λ _ _ _. tt;
+  surge_step_all_asks_nothing = λ _ _ _. tt;
+  saves_save_asks_nothing = λ _ _ _. tt;
+  loads_load_asks_nothing = λ _ _ _. tt;
+  grids_read_grid_asks_nothing = λ _ _ _. tt;
+  forcings_read_forcing_asks_nothing = λ _ _ _. tt;
+  forcelog_take_asks_nothing = λ _ _ _. tt;
+  forcelog_end_asks_nothing = λ _ _ _. tt;
+  capi_surge_open_asks_nothing = λ _ _ _. tt;
+  capi_surge_step_asks_nothing = λ _ _ _. tt;
+  capi_surge_step_all_asks_nothing = λ _ _ _. tt;
+  capi_surge_save_asks_nothing = λ _ _ _. tt;
+  capi_surge_load_asks_nothing = λ _ _ _. tt;
+  capi_surge_read_forcing_asks_nothing = λ _ _ _. tt;
+  capi_surge_read_grid_asks_nothing = λ _ _ _. tt;
+  gauges_gauge_locate_asks_nothing = λ _ _ _. tt;
+  gauges_gauge_add_asks_nothing = λ _ _ _. tt;
+  gauges_gauge_elevation_asks_nothing = λ _ _ _. tt;
+  gauges_gauge_update_asks_nothing = λ _ _ _. tt;
+  gauges_gauge_peak_asks_nothing = λ _ _ _. tt;
 }

@@ -1,21 +1,18 @@
--- Every statement that docs/STATEMENTS.md lists, by name: proofs/Every.antt has a proof of this record, with each of its fields. A statement that has no
--- proof, or that is not listed here, is no statement of the product.
+-- Every statement that docs/STATEMENTS.md lists, by name: the function of src/lib.rt promises this record, and its proof has to give each field. A statement
+-- that has no proof, or that is not listed here, is no statement of the product.
 use Rattle.statements.specs.Determined.{EachDetermined, EachCallAsksNothing}
 use Rattle.demands.specs.Demand1.{Demand1}
-use Rattle.demands.specs.Demand2.{Demand2}
-use Rattle.demands.specs.Floats.{FloatsWithoutLoss}
+use Rattle.demands.specs.Demand2.{Demand2, FloatsWithoutLoss}
 use Rattle.demands.specs.Friction.{SameAtZeroFriction}
 use Rattle.demands.specs.Advection.{OffGivesEarlier}
 use Rattle.demands.specs.RoundTrip.{SavedIsLoaded, SameTextSameRun, LoadedIsSaved}
-use Rattle.demands.specs.Spellings.{EitherCase}
-use Rattle.demands.specs.Forms.{ManySpellingsOneForm}
+use Rattle.demands.specs.Spellings.{EitherCase, ManySpellingsOneForm}
 use Rattle.demands.specs.Editions.{OldSavesLoad, OldBuildsRefuse}
 use Rattle.demands.specs.Demand3.{Demand3AtSurge, AnySaveAtSurge, OpensCold, OwnSavesLoad, HeldRunsSave}
 use Rattle.worked.specs.Computed.{ComputedHolds, LatestHolds, CaughtHolds}
 use Rattle.worked.specs.Examples.{ExamplesHold}
 use Rattle.statements.specs.Printing.{PrintingHolds}
-use Rattle.statements.specs.Grids.{GridDemands}
-use Rattle.statements.specs.MeshesRead.{RunsOnMeshesRead}
+use Rattle.statements.specs.Grids.{GridDemands, RunsOnMeshesRead}
 use Rattle.gridtext.specs.Written.{WrittenIsRead}
 use Rattle.statements.specs.Gauges.{GaugeDemands}
 use Rattle.boards.specs.Gauges.{ExactlyForty, NeverBeyond30, RecordKept, PeaksAtGauges, OwnRecordsPass}

@@ -8,32 +8,28 @@ use Rattle.keeping.specs.Keeping.{number_rows, AddOut, add_out, add_answer, Upda
 use Rattle.looking.specs.Lent.{Lent, lent, lent_rows}
 use Rattle.looking.specs.Looking.{is_on, triangle_at, level_at}
 use Rattle.gauges.specs.Calls.{parameters, answer, point, given, mark, Located, located, locate_answer, locate_of, add_of, Measured, measured, elevation_answer, elevation_of, all_on, update_of, Peaked, peaked, peak_of}
+use Rattle.demands.specs.Ensured.{says, 𝓛₀, mem₀, run₀}
 use Rattle.demands.specs.CallContracts.{Keeps}
-use Rattle.demands.specs.Answers.{Accepts, Refuses}
-use Rattle.gauges.proofs.gauge_locate.Kinds as gauge_locate_kinds
-use Rattle.gauges.proofs.gauge_locate.Reads as gauge_locate_reads
-use Rattle.gauges.proofs.gauge_add.Kinds as gauge_add_kinds
-use Rattle.gauges.proofs.gauge_add.Reads as gauge_add_reads
-use Rattle.gauges.proofs.gauge_elevation.Kinds as gauge_elevation_kinds
-use Rattle.gauges.proofs.gauge_elevation.Reads as gauge_elevation_reads
-use Rattle.gauges.proofs.gauge_update.Kinds as gauge_update_kinds
-use Rattle.gauges.proofs.gauge_update.Reads as gauge_update_reads
-use Rattle.gauges.proofs.gauge_peak.Kinds as gauge_peak_kinds
-use Rattle.gauges.proofs.gauge_peak.Reads as gauge_peak_reads
+use Rattle.demands.specs.Demand1.{Accepts, Refuses}
+use Rattle.gauges.specs.contracts.gauge_locate as gauge_locate_contract
+use Rattle.gauges.specs.contracts.gauge_add as gauge_add_contract
+use Rattle.gauges.specs.contracts.gauge_elevation as gauge_elevation_contract
+use Rattle.gauges.specs.contracts.gauge_update as gauge_update_contract
+use Rattle.gauges.specs.contracts.gauge_peak as gauge_peak_contract
 
 -- ---- what a call leaves, read off its own contract: of what is lent, the record as it was, the point, the gauge or the step number, and what comes back
 
 -- gauge_locate(triangle, place, value, state, x, y, tri, h, kind, dt, tau, k, f, px, py)
 abbrev pub Locating : (Lent → Point → Located → Type 0) → Type 0
 Locating Says =
-    Keeps gauge_locate_kinds.ps gauge_locate_kinds.r gauge_locate_reads.Post
+    Keeps gauge_locate_contract.ended (gauge_locate_contract.clauses 𝓛₀ mem₀ run₀) (λ κs a g x s. says _)
     (λ κs (_, (_, (_, (state, (x, (y, (tri, (h, (kind, (dt, (tau, (k, (f, (px, (py, _))))))))))))))) number (triangle, (place, (value, _))).
     Says (lent state.now x.now y.now tri.now h.now kind.now (parameters dt tau k f)) (point px py) (located (answer number place value) triangle))
 
 -- gauge_add(record, gauge, place, value, state, .., f, px, py)
 abbrev pub Adding : (Lent → List ℕ → Point → AddOut → Type 0) → Type 0
 Adding Says =
-    Keeps gauge_add_kinds.ps gauge_add_kinds.r gauge_add_reads.Post
+    Keeps gauge_add_contract.ended (gauge_add_contract.clauses 𝓛₀ mem₀ run₀) (λ κs a g x s. says _)
     (λ κs (r, (_, (_, (_, (state, (x, (y, (tri, (h, (kind, (dt, (tau, (k, (f, (px, (py, _)))))))))))))))) number (r', (gauge, (place, (value, _)))).
     Says (lent state.now x.now y.now tri.now h.now kind.now (parameters dt tau k f)) r.now (point px py)
     (add_out (given (answer number place value) gauge) r'))
@@ -41,7 +37,7 @@ Adding Says =
 -- gauge_elevation(elevation, place, value, record, state, .., f, gauge)
 abbrev pub Measuring : (Lent → List ℕ → ℕ → Measured → Type 0) → Type 0
 Measuring Says =
-    Keeps gauge_elevation_kinds.ps gauge_elevation_kinds.r gauge_elevation_reads.Post
+    Keeps gauge_elevation_contract.ended (gauge_elevation_contract.clauses 𝓛₀ mem₀ run₀) (λ κs a g x s. says _)
     (λ κs (_, (_, (_, (r, (state, (x, (y, (tri, (h, (kind, (dt, (tau, (k, (f, (gauge, _))))))))))))))) number (elevation, (place, (value, _))).
     Says (lent state.now x.now y.now tri.now h.now kind.now (parameters dt tau k f)) r.now gauge
     (measured (answer number place value) elevation))
@@ -49,7 +45,7 @@ Measuring Says =
 -- gauge_update(record, place, value, state, .., f, step)
 abbrev pub Updating : (Lent → List ℕ → ℕ → UpdateOut → Type 0) → Type 0
 Updating Says =
-    Keeps gauge_update_kinds.ps gauge_update_kinds.r gauge_update_reads.Post
+    Keeps gauge_update_contract.ended (gauge_update_contract.clauses 𝓛₀ mem₀ run₀) (λ κs a g x s. says _)
     (λ κs (r, (_, (_, (state, (x, (y, (tri, (h, (kind, (dt, (tau, (k, (f, (step, _)))))))))))))) number (r', (place, (value, _))).
     Says (lent state.now x.now y.now tri.now h.now kind.now (parameters dt tau k f)) r.now step
     (update_out (answer number place value) r'))
@@ -57,7 +53,7 @@ Updating Says =
 -- gauge_peak(seen, peak, step, place, value, record, gauge)
 abbrev pub Peaking : (List ℕ → ℕ → Peaked → Type 0) → Type 0
 Peaking Says =
-    Keeps gauge_peak_kinds.ps gauge_peak_kinds.r gauge_peak_reads.Post
+    Keeps gauge_peak_contract.ended (gauge_peak_contract.clauses 𝓛₀ mem₀ run₀) (λ κs a g x s. says _)
     (λ κs (_, (_, (_, (_, (_, (r, (gauge, _))))))) number (seen, (peak, (step, (place, (value, _))))).
     Says r.now gauge (peaked (answer number place value) (mark seen peak step)))
 

@@ -1,11 +1,9 @@
-// What is proved of the product, read from the top: specs/ has the statements, proofs/ their proofs. A statement is a type, and a type asks for no proof: the
-// record proofs/Every.antt has a proof of each. Those that speak of definitions alone one function promises besides; the others speak of the calls' own
-// contracts, which no contract may cite.
+// What is proved of the product, read from the top: specs/ has the statements, proofs/ their proofs. A statement is a type, and a type asks for no proof; a
+// function's contract does. So one function promises them all, and the crate is proved only with a proof of each.
 #![tactic(auto)]
-ghost use Rattle.statements.specs.OfDefinitions.{StatementsOfDefinitions};
+ghost use Rattle.statements.specs.Every.{EveryStatement};
 
-// Does nothing, and promises every statement of definitions.
+// Does nothing, and promises every statement.
 fn every_statement()
-    ensures { StatementsOfDefinitions }
-{
-}
+    ensures { EveryStatement }
+{}

@@ -1,5 +1,6 @@
 // The storm-surge run of document 01: the calls that are made on it, and what goes into them and comes back.
 #![tactic(auto)]
+
 ghost use Rattle.std.specs.Prelude.{◌≡◌, ◌<◌};
 ghost use Rattle.mesh.specs.Lent.{mesh};
 ghost use Rattle.passes.specs.Settle.{lent_rooms};

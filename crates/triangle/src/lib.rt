@@ -1,5 +1,6 @@
 // The gradients and means of one triangle, as one record.
 #![tactic(auto)]
+
 ghost use Rattle.std.specs.Prelude.{◌≡◌};
 ghost use Rattle.triangle.specs.Triangle.{mean, slope, means, advection};
 

@@ -1,5 +1,6 @@
 // The formulas of "Velocity" on single values: the pair U', V' of one node.
 #![tactic(auto)]
+
 ghost use Rattle.std.specs.Prelude.{◌≡◌};
 ghost use Rattle.quantities.specs.Operations.{◌⊗◌, ◌⊘◌, less_if};
 ghost use Rattle.velocity.specs.Velocity.{flow, flow_of, push_of};

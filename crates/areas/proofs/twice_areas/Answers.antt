@@ -1,4 +1,4 @@
-use Prim.Native.Nat.{◌-◌, ◌/◌, ◌≤◌}
+use Prim.Native.Nat.{◌/◌, ◌≤◌}
 use mathlib.Core.Path.{◌≡◌, sym, ap, ◌∙◌}
 use mathlib.Core.Bool.{cond}
 use native.Mathlib.Omega.{arith}
@@ -6,7 +6,7 @@ use borrow.Author.Rules.{rules}
 use borrow.Author.Tests.{le-leb, lt-leb}
 use lib.Dec.{leb}
 use lib.ListN.{length}
-use Rattle.areas.specs.Areas.{total, counted, counted_sum}
+use Rattle.areas.specs.Areas.{total, counted_sum}
 use Rattle.areas.proofs.AreaLaws.{total_none, total_more, counted_small, counts_small}
 use Rattle.areas.proofs.twice_areas.Goals as goal
 use Rattle.areas.proofs.twice_areas.Goals.{Joined-all-le8192, then-all-le8192, else-all-le8192}
@@ -17,9 +17,9 @@ most c = elim c.if-all-le8192.branch [ then-all-le8192 w ↦ (omega arith, omega
 
 fewer : (c : Joined-all-le8192) → let all = length c.args.tri.now / 3 in c.if-all-le8192.e ≡ cond (leb all 8192) all 8192
 fewer c =
-    elim c.if-all-le8192.branch
-    [ then-all-le8192 w ↦ rw (le-leb _ _ w.if-all-le8192.true) w.e-is
-    | else-all-le8192 w ↦ rw (lt-leb _ _ w.if-all-le8192.false) w.e-is
+    elim c.if-all-le8192.branch [
+      | then-all-le8192 w ↦ rw (le-leb _ _ w.if-all-le8192.true) w.e-is
+      | else-all-le8192 w ↦ rw (lt-leb _ _ w.if-all-le8192.false) w.e-is
     ]
 
 pub loop-t-init : goal.loop-t-init

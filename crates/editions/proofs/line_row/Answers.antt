@@ -1,4 +1,3 @@
-
 use Rattle.editions.proofs.line_row.Goals as goal
 
 pub returns : goal.returns

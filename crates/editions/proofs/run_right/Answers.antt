@@ -1,4 +1,3 @@
-
 use Rattle.editions.proofs.run_right.Goals as goal
 
 pub returns : goal.returns

@@ -1,13 +1,12 @@
-use Prim.Native.Nat.{ℕ, ◌+◌, ◌*◌, ◌≤◌, ◌-◌}
+use Prim.Native.Nat.{ℕ, ◌+◌, ◌*◌}
 use mathlib.Core.Path.{◌≡◌, sym, ◌∙◌}
 use mathlib.Core.List.{List}
 use native.Mathlib.Omega.{arith}
-use borrow.Author.Rules.{rules}
 use lib.ListN.{length, set, length-set}
 use lib.Ieee.{Float}
 use Rattle.frames.specs.Reading.{float}
 use Rattle.forcings.specs.Forcings.{forcing10}
-use Rattle.forcings.proofs.RoomLaws.{filled_to, fill_none, fill_more, fill_all}
+use Rattle.forcings.proofs.RoomLaws.{fill_none, fill_more, fill_all}
 use Rattle.forcings.proofs.fill_10.Goals as goal
 
 -- the line's wind, for every node

@@ -1,15 +1,14 @@
-use Prim.Native.Nat.{ℕ, suc, ◌+◌, ◌*◌, ◌≤◌, ◌-◌}
+use Prim.Native.Nat.{ℕ, suc, ◌+◌, ◌*◌}
 use mathlib.Core.Path.{◌≡◌, sym, ap, ◌∙◌}
 use mathlib.Core.List.{List}
 use native.Mathlib.Omega.{arith}
-use borrow.Author.Rules.{rules}
 use lib.ListN.{length, set, length-set}
 use lib.Ieee.{Float}
 use Rattle.frames.specs.Reading.{float}
 use Rattle.frames.specs.Texts.{start_of, line_at}
 use Rattle.forcings.specs.Forcings.{forcing_lines, forcing14}
 use Rattle.forcings.proofs.ForcingLaws.{start_wind}
-use Rattle.forcings.proofs.RoomLaws.{filled_to, fill_none, fill_more, fill_all}
+use Rattle.forcings.proofs.RoomLaws.{fill_none, fill_more, fill_all}
 use Rattle.forcings.proofs.fill_14.Goals as goal
 use Rattle.forcings.proofs.fill_14.Goals.{After-part-line}
 

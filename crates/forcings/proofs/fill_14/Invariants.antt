@@ -1,15 +1,10 @@
-use Prim.Native.Nat.{ℕ, suc, ◌+◌, ◌*◌, ◌≤◌, ◌-◌}
-use mathlib.Core.Path.{◌≡◌, sym, ap, ◌∙◌}
-use mathlib.Core.List.{List}
-use native.Mathlib.Omega.{arith}
-use borrow.Author.Rules.{rules}
-use lib.ListN.{length, set, length-set}
-use lib.Ieee.{Float}
+use Prim.Native.Nat.{suc, ◌+◌, ◌*◌, ◌≤◌, ◌-◌}
+use mathlib.Core.Path.{◌≡◌}
+use lib.ListN.{length}
 use Rattle.frames.specs.Reading.{float}
-use Rattle.frames.specs.Texts.{start_of, line_at}
-use Rattle.forcings.specs.Forcings.{forcing_lines, forcing14}
-use Rattle.forcings.proofs.ForcingLaws.{start_wind}
-use Rattle.forcings.proofs.RoomLaws.{filled_to, fill_none, fill_more, fill_all}
+use Rattle.frames.specs.Texts.{line_at}
+use Rattle.forcings.specs.Forcings.{forcing_lines}
+use Rattle.forcings.proofs.RoomLaws.{filled_to}
 use Rattle.forcings.proofs.fill_14.Given as goal
 
 abbrev pub invariant-loop-i : goal.invariant-loop-i

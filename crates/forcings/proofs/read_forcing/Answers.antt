@@ -1,7 +1,6 @@
 use Prim.Native.Nat.{◌+◌, ◌*◌, ◌/◌}
 use mathlib.Core.Path.{◌≡◌, sym, ◌∙◌}
 use mathlib.Core.Bool.{true, false}
-use native.Mathlib.Omega.{arith}
 use lib.ListN.{length}
 use Rattle.rows.proofs.ScanLaws.{row_passed, same_number}
 use Rattle.forcings.specs.Forcings.{is_room, of_kind10, forcing_answer}
@@ -61,4 +60,3 @@ returns c =
 
 pub fill_10-requires : goal.fill_10-requires
 fill_10-requires c = long (goal.at.fill_10-requires c).Else-shape-ne0
-

@@ -1,17 +1,7 @@
 use Prim.Native.Nat.{ℕ, ◌+◌, ◌-◌, ◌≤◌, ◌<◌}
-use mathlib.Core.Path.{◌≡◌, refl, sym, ap, ◌∙◌}
-use native.Mathlib.Numerals.{add-one}
-use native.Mathlib.Omega.{arith}
-use borrow.Author.Count.{below_none, below_more}
-use borrow.Author.Rules.{rules}
-use lib.ListN.{length}
-use Rattle.rows.specs.declared.Answer.{Answer}
-use Rattle.rows.proofs.ScanLaws.{scan_none, scan_hit, same_number, other_number, stops, goes}
-use Rattle.frames.specs.Texts.{start_of}
+use mathlib.Core.Path.{◌≡◌}
 use Rattle.faults.specs.Faults.{line_fault}
-use Rattle.faults.proofs.FaultLaws.{line_within}
 use Rattle.forcings.specs.Forcings.{forcing_lines, forcing_length}
-use Rattle.forcings.proofs.ForcingLaws.{start_wind}
 use Rattle.forcings.proofs.rows_14.Given as goal
 
 -- no line passed so far refuses

@@ -1,4 +1,4 @@
-use Rattle.std.proofs.Common.{◌≡◌, ℕ, List, rules}
+use Rattle.std.proofs.Common.{◌≡◌, ℕ, List}
 use Rattle.rows.proofs.ScanLaws.{same_number}
 use Rattle.grids.specs.Grid.{Grid, grid, grid_answer}
 use Rattle.grids.proofs.GridLaws.{read_done, read_refused}

@@ -1,6 +1,5 @@
 use mathlib.Core.Path.{◌≡◌}
 use native.Mathlib.Omega.{arith}
-use borrow.Author.Rules.{rules}
 use Rattle.legs.proofs.leg.Goals as goal
 
 pub returns-then-j-eq0 : goal.returns-then-j-eq0

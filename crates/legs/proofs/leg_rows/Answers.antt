@@ -1,15 +1,14 @@
-use Prim.Native.Nat.{ℕ, ◌-◌, ◌≤◌, ◌<◌}
+use Prim.Native.Nat.{ℕ}
 use mathlib.Core.Path.{◌≡◌, sym, ap, ◌∙◌}
-use mathlib.Core.Bool.{false}
 use native.Mathlib.Omega.{arith}
 use borrow.Author.Count.{below_none, below_more}
 use borrow.Author.Rules.{rules}
 use Rattle.rows.specs.declared.Answer.{Answer}
-use Rattle.rows.specs.Scan.{refused, some}
+use Rattle.rows.specs.Scan.{refused}
 use Rattle.rows.proofs.ScanLaws.{scan_none, scan_hit, some_none}
 use Rattle.geometry.specs.Geometry.{nodes_of}
 use Rattle.mesh.specs.Lent.{corners}
-use Rattle.legs.specs.Legs.{leg_seen, row6}
+use Rattle.legs.specs.Legs.{row6}
 use Rattle.mesh.proofs.SideLaws.{corners_read}
 use Rattle.legs.proofs.LegLaws.{corners_small, seen_leg, legs_new, leg_old}
 use Rattle.legs.proofs.leg_rows.Goals as goal
@@ -55,13 +54,13 @@ pairs-preserved c = (search rules, below_more _ _ c.pairs.invariant.1 (legs_new 
 pub returns-then-t-e : goal.returns-then-t-e
 returns-then-t-e c =
     let old : row6 c.args.tri.now c.pairs.t ≡ refused 6 c.pairs.t =
-    elim c.pairs-test.branch
-    [ else-pairs-test w ↦ absurd (omega arith)
-    | then-pairs-test+then-loop-s-test+then-loop-j-test+then-leg_seen w ↦
-        leg_old _ _ _ _ w.loop-s-test.true w.loop-j-test.true
-        (sym (seen_leg c.args.tri.now c.pairs.t w.loop-j.j w.loop-s.s w.loop-j-test.true (corners_read _ _ w.pairs-test.true w.corners_at-its.ensures) (corners_read _ _ (omega (arith, w.loop-s-test.true, w.pairs-test.true)) w.corners_at-c.ensures))
-        ∙ sym w.leg_seen.ensures
-        ∙ w.if-leg_seen.true)
+    elim c.pairs-test.branch [
+      | else-pairs-test w ↦ absurd (omega arith)
+      | then-pairs-test+then-loop-s-test+then-loop-j-test+then-leg_seen w ↦
+          leg_old _ _ _ _ w.loop-s-test.true w.loop-j-test.true
+          (sym (seen_leg c.args.tri.now c.pairs.t w.loop-j.j w.loop-s.s w.loop-j-test.true (corners_read _ _ w.pairs-test.true w.corners_at-its.ensures) (corners_read _ _ (omega (arith, w.loop-s-test.true, w.pairs-test.true)) w.corners_at-c.ensures))
+          ∙ sym w.leg_seen.ensures
+          ∙ w.if-leg_seen.true)
     ] in
     c.refuse.ensures ∙ sym old ∙ sym (scan_hit _ _ _ c.if-t-e.true c.pairs.invariant.1 (six old))
 

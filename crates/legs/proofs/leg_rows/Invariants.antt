@@ -1,18 +1,8 @@
 use Prim.Native.Nat.{ℕ, ◌-◌, ◌≤◌, ◌<◌}
-use mathlib.Core.Path.{◌≡◌, sym, ap, ◌∙◌}
+use mathlib.Core.Path.{◌≡◌}
 use mathlib.Core.Bool.{false}
-use mathlib.Core.Logic.{⊎_elim}
-use native.Mathlib.Omega.{arith}
-use borrow.Author.Count.{below_none, below_more}
-use borrow.Author.Rules.{rules}
-use Rattle.rows.specs.declared.Answer.{Answer}
-use Rattle.rows.specs.Scan.{refused, some}
-use Rattle.rows.proofs.ScanLaws.{scan_none, scan_hit, some_none}
-use Rattle.geometry.specs.Geometry.{nodes_of}
-use Rattle.mesh.specs.Lent.{corners}
+use Rattle.rows.specs.Scan.{some}
 use Rattle.legs.specs.Legs.{leg_seen, row6}
-use Rattle.mesh.proofs.SideLaws.{corners_read}
-use Rattle.legs.proofs.LegLaws.{corners_small, seen_leg, legs_new, leg_old}
 use Rattle.legs.proofs.leg_rows.Given as goal
 
 abbrev pub invariant-loop-j : goal.invariant-loop-j

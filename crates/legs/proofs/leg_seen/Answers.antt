@@ -1,7 +1,6 @@
 use Prim.Native.Nat.{◌+◌, ◌%◌}
 use Rattle.geometry.specs.Geometry.{nodes_of}
 use Rattle.legs.proofs.LegLaws.{one_of_legs, corner_below}
-use borrow.Author.Rules.{rules}
 use Rattle.legs.proofs.leg_seen.Goals as goal
 
 pub returns : goal.returns

@@ -1,7 +1,6 @@
 use lib.Ieee.{of_bits, neg, round}
 use Rattle.rows.specs.Numbers.{decimal, minus}
 use Rattle.limits.specs.Limits.{in_bounds}
-use borrow.Author.Rules.{rules}
 use Rattle.limits.proofs.in_bounds.Goals as goal
 
 pub returns : goal.returns

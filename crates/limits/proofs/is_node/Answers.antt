@@ -1,7 +1,6 @@
 use lib.Ieee.{of_bits, round}
 use Rattle.rows.specs.Numbers.{decimal}
 use Rattle.limits.specs.Limits.{is_node}
-use borrow.Author.Rules.{rules}
 use Rattle.limits.proofs.is_node.Goals as goal
 
 pub returns : goal.returns

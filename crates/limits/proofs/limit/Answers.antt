@@ -1,4 +1,3 @@
-
 use Rattle.limits.proofs.limit.Goals as goal
 
 pub returns : goal.returns

@@ -1,5 +1,4 @@
 use Rattle.limits.specs.Limits.{row11}
-use borrow.Author.Rules.{rules}
 use Rattle.limits.proofs.may_count.Goals as goal
 
 pub returns : goal.returns

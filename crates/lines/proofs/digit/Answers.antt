@@ -1,5 +1,4 @@
 use borrow.Author.Tests.{lt-ltb, le-ltb}
-use native.Mathlib.Omega.{arith}
 use Rattle.frames.specs.Bytes.{digit}
 use Rattle.lines.proofs.digit.Goals as goal
 

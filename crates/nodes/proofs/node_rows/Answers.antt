@@ -1,5 +1,4 @@
 use Rattle.nodes.specs.Rows.{node_rows}
-use borrow.Author.Rules.{rules}
 use Rattle.nodes.proofs.node_rows.Goals as goal
 
 pub returns : goal.returns

@@ -1,19 +1,16 @@
-use Prim.Native.Nat.{ℕ, ◌+◌, ◌-◌, ◌*◌, ◌≤◌}
+use Prim.Native.Nat.{ℕ, ◌+◌, ◌-◌}
 use mathlib.Core.Path.{◌≡◌, refl, sym, ap, ◌∙◌}
 use mathlib.Core.Bool.{cond}
 use mathlib.Core.List.{List}
 use native.Mathlib.Omega.{arith}
-use borrow.Author.Rules.{rules}
 use lib.Dec.{eqb}
 use lib.ListN.{length}
 use lib.Ieee.{Float}
 use Rattle.mesh.specs.Lent.{Mesh, mesh}
-use Rattle.bounds.specs.State.{state_runs}
 use Rattle.bounds.specs.Forcing.{forcing_length, forcing_at}
 use Rattle.bounds.proofs.ListLaws.{forcing_long}
-use Rattle.passes.specs.Settle.{work_runs}
 use Rattle.passes.specs.Equations.{next_state}
-use Rattle.passes.specs.Private.{of_forcing, later_rows, onward_of, onward}
+use Rattle.passes.specs.Private.{of_forcing, later_rows, onward_of}
 use Rattle.passes.proofs.TurnLaws.{listed, Part, part, lent_part, onward_none, onward_stop, onward_more, counts}
 use Rattle.passes.proofs.further.Goals as goal
 use Rattle.passes.proofs.further.Goals.{After-go_on-answer, At-loop-j, In-loop-j, Start}
@@ -32,15 +29,21 @@ net s = let a = s.args in mesh a.x.now a.y.now a.tri.now a.h.now a.kind.now
 abbrev forcing : Start → ℕ → List Float
 forcing s = let a = s.args in forcing_at (length a.x.now) a.list.now
 
--- what a turn asks and leaves
-answered : (v : After-go_on-answer) → v.go_on-answer.result ≡ later_rows ((let a = v.args in mesh a.x.now a.y.now a.tri.now a.h.now a.kind.now)) v.args.p (v.args.from + v.loop-j.j) ((let a = v.args in forcing_at (length a.x.now) a.list.now) v.loop-j.j) v.loop-j.next
-answered v =
-    v.go_on-answer.ensures.0 ∙ (λ i. later_rows ((let a = v.args in mesh a.x.now a.y.now a.tri.now a.h.now a.kind.now)) v.args.p (v.loop-j.invariant.0.1 i) (lent_part (length v.args.x.now) v.args.list.now v.loop-j.j i) v.loop-j.next)
+abbrev lent : After-go_on-answer → Mesh
+lent v = let a = v.args in mesh a.x.now a.y.now a.tri.now a.h.now a.kind.now
 
-written : (v : After-go_on-answer) → v.go_on-answer.new.next ≡ cond (eqb v.go_on-answer.result.number 0) (next_state (of_forcing ((let a = v.args in mesh a.x.now a.y.now a.tri.now a.h.now a.kind.now)) v.args.p ((let a = v.args in forcing_at (length a.x.now) a.list.now) v.loop-j.j) v.loop-j.next)) v.loop-j.next
+abbrev its : After-go_on-answer → List Float
+its v = forcing_at (length v.args.x.now) v.args.list.now v.loop-j.j
+
+-- what a turn asks and leaves
+answered : (v : After-go_on-answer) → v.go_on-answer.result ≡ later_rows (lent v) v.args.p (v.args.from + v.loop-j.j) (its v) v.loop-j.next
+answered v =
+    v.go_on-answer.ensures.0 ∙ (λ i. later_rows (lent v) v.args.p (v.loop-j.invariant.0.1 i) (lent_part (length v.args.x.now) v.args.list.now v.loop-j.j i) v.loop-j.next)
+
+written : (v : After-go_on-answer) → v.go_on-answer.new.next ≡ cond (eqb v.go_on-answer.result.number 0) (next_state (of_forcing (lent v) v.args.p (its v) v.loop-j.next)) v.loop-j.next
 written v =
     v.go_on-answer.ensures.1
-    ∙ (λ i. cond (eqb v.go_on-answer.result.number 0) (next_state (of_forcing ((let a = v.args in mesh a.x.now a.y.now a.tri.now a.h.now a.kind.now)) v.args.p (lent_part (length v.args.x.now) v.args.list.now v.loop-j.j i) v.loop-j.next)) v.loop-j.next)
+    ∙ (λ i. cond (eqb v.go_on-answer.result.number 0) (next_state (of_forcing (lent v) v.args.p (lent_part (length v.args.x.now) v.args.list.now v.loop-j.j i) v.loop-j.next)) v.loop-j.next)
 
 pub loop-j-init : goal.loop-j-init
 loop-j-init c =
@@ -51,39 +54,31 @@ pub go_on-answer-requires : goal.go_on-answer-requires
 go_on-answer-requires c =
     let lengths = c.loop-j.invariant.1 in
     let n = length c.args.x.now in
-    (c.requires.shaped, (lengths.0, lengths.1, lengths.2, ap length (lent_part n c.args.list.now c.loop-j.j) ∙ forcing_long n c.args.list.now c.loop-j.j (listed n c.args.list.now c.loop-j-test.true)))
+    record { shaped = c.requires.shaped; next_len = (lengths.0, lengths.1, lengths.2, ap length (lent_part n c.args.list.now c.loop-j.j) ∙ forcing_long n c.args.list.now c.loop-j.j (listed n c.args.list.now c.loop-j-test.true)) }
 
 pub returns-then-answer-ne0 : goal.returns-then-answer-ne0
 returns-then-answer-ne0 c =
-    let stop = onward_stop (net (goal.at.returns-then-answer-ne0 c).Start) c.args.p c.args.from (forcing (goal.at.returns-then-answer-ne0 c).Start) _ c.loop-j.j c.loop-j-test.true c.loop-j.next (answered (goal.at.returns-then-answer-ne0 c).After-go_on-answer) (written (goal.at.returns-then-answer-ne0 c).After-go_on-answer) c.if-answer-ne0.true in
-    (omega (arith, c.loop-j.invariant.0), ap (λ (k : ℕ). onward_of c.go_on-answer.result k c.go_on-answer.new.next) (counted (goal.at.returns-then-answer-ne0 c).At-loop-j) ∙ sym stop ∙ c.loop-j.invariant.2)
+    let w = goal.at.returns-then-answer-ne0 c in
+    let stop = onward_stop (net w.Start) c.args.p c.args.from (forcing w.Start) _ c.loop-j.j c.loop-j-test.true c.loop-j.next (answered w.After-go_on-answer) (written w.After-go_on-answer) c.if-answer-ne0.true in
+    (omega (arith, c.loop-j.invariant.0), ap (λ (k : ℕ). onward_of c.go_on-answer.result k c.go_on-answer.new.next) (counted w.At-loop-j) ∙ sym stop ∙ c.loop-j.invariant.2)
 
 pub loop-j-preserved : goal.loop-j-preserved
 loop-j-preserved c =
-    let more = onward_more (net (goal.at.loop-j-preserved c).Start) c.args.p c.args.from (forcing (goal.at.loop-j-preserved c).Start) _ c.loop-j.j c.loop-j-test.true c.loop-j.next (answered (goal.at.loop-j-preserved c).After-go_on-answer) (written (goal.at.loop-j-preserved c).After-go_on-answer) c.if-answer-ne0.false in
-    let may = counts (net (goal.at.loop-j-preserved c).Start) c.args.p c.args.from (forcing (goal.at.loop-j-preserved c).Start) _ c.loop-j.j c.loop-j-test.true c.loop-j.next (answered (goal.at.loop-j-preserved c).After-go_on-answer) c.if-answer-ne0.false in
+    let w = goal.at.loop-j-preserved c in
+    let more = onward_more (net w.Start) c.args.p c.args.from (forcing w.Start) _ c.loop-j.j c.loop-j-test.true c.loop-j.next (answered w.After-go_on-answer) (written w.After-go_on-answer) c.if-answer-ne0.false in
+    let may = counts (net w.Start) c.args.p c.args.from (forcing w.Start) _ c.loop-j.j c.loop-j-test.true c.loop-j.next (answered w.After-go_on-answer) c.if-answer-ne0.false in
     let kept = c.go_on-answer.auto in
     let lengths = c.loop-j.invariant.1 in (
       (omega (arith, c.loop-j-test.true), omega (arith, c.loop-j.invariant.0), omega (arith, c.loop-j.invariant.0, may)),
-      (kept.0 ∙ lengths.0, kept.1.0 ∙ lengths.1, kept.1.1.0 ∙ lengths.2),
+      (kept.next ∙ lengths.0, kept.work ∙ lengths.1, kept.sums ∙ lengths.2),
       sym more ∙ c.loop-j.invariant.2,
     )
 
 pub returns : goal.returns
 returns c =
-    let none = onward_none (net (goal.at.returns c).Start) c.args.p c.args.from (forcing (goal.at.returns c).Start) _ c.loop-j.j c.loop-j.next c.loop-j-test.false in
-    (omega (arith, c.loop-j.invariant.0), (λ i. onward_of (c.accept.ensures i) (counted (goal.at.returns c).At-loop-j i) c.loop-j.next) ∙ sym none ∙ c.loop-j.invariant.2)
-
--- the rooms keep their lengths
-
-next_long : (l : At-loop-j) → length l.loop-j.next ≡ length l.args.next.now
-next_long l = l.loop-j.invariant.1.0 ∙ sym l.requires.next_len.0
-
-work_long : (l : At-loop-j) → length l.loop-j.work ≡ length l.args.work.now
-work_long l = l.loop-j.invariant.1.1 ∙ sym l.requires.next_len.1
-
-sums_long : (l : At-loop-j) → length l.loop-j.sums ≡ length l.args.sums.now
-sums_long l = l.loop-j.invariant.1.2 ∙ sym l.requires.next_len.2
+    let w = goal.at.returns c in
+    let none = onward_none (net w.Start) c.args.p c.args.from (forcing w.Start) _ c.loop-j.j c.loop-j.next c.loop-j-test.false in
+    (omega (arith, c.loop-j.invariant.0), (λ i. onward_of (c.accept.ensures i) (counted w.At-loop-j i) c.loop-j.next) ∙ sym none ∙ c.loop-j.invariant.2)
 
 pub overflow_mul-here : goal.overflow_mul-here
 overflow_mul-here c = (here (goal.at.overflow_mul-here c).In-loop-j).start
@@ -103,29 +98,8 @@ slice_bounds-f-end c = omega (arith, (here (goal.at.slice_bounds-f-end c).In-loo
 pub overflow_sub-result : goal.overflow_sub-result
 overflow_sub-result c = omega (arith, c.loop-j.invariant.0)
 
-pub shape_of-next-then-answer-ne0 : goal.shape_of-next-then-answer-ne0
-shape_of-next-then-answer-ne0 c = c.go_on-answer.auto.next ∙ next_long (goal.at.shape_of-next-then-answer-ne0 c).At-loop-j
-
-pub shape_of-work-then-answer-ne0 : goal.shape_of-work-then-answer-ne0
-shape_of-work-then-answer-ne0 c = c.go_on-answer.auto.work ∙ work_long (goal.at.shape_of-work-then-answer-ne0 c).At-loop-j
-
-pub shape_of-sums-then-answer-ne0 : goal.shape_of-sums-then-answer-ne0
-shape_of-sums-then-answer-ne0 c = c.go_on-answer.auto.sums ∙ sums_long (goal.at.shape_of-sums-then-answer-ne0 c).At-loop-j
-
 pub overflow_add-step-in-loop-j : goal.overflow_add-step-in-loop-j
 overflow_add-step-in-loop-j c = record { fits = omega (arith, (loop-j-preserved c).0) }
 
-pub overflow_step-j : goal.overflow_step-j
-overflow_step-j c = record { fits = omega (arith, (loop-j-preserved c).0) }
-
 pub overflow_sub-result-2 : goal.overflow_sub-result-2
 overflow_sub-result-2 c = omega (arith, c.loop-j.invariant.0)
-
-pub shape_of-next : goal.shape_of-next
-shape_of-next c = next_long (goal.at.shape_of-next c).At-loop-j
-
-pub shape_of-work : goal.shape_of-work
-shape_of-work c = work_long (goal.at.shape_of-work c).At-loop-j
-
-pub shape_of-sums : goal.shape_of-sums
-shape_of-sums c = sums_long (goal.at.shape_of-sums c).At-loop-j

@@ -1,27 +1,15 @@
-use Prim.Native.Nat.{ℕ, ◌+◌, ◌-◌, ◌*◌, ◌≤◌}
-use mathlib.Core.Path.{◌≡◌, refl, sym, ap, ◌∙◌}
-use mathlib.Core.Bool.{cond}
-use mathlib.Core.List.{List}
-use native.Mathlib.Omega.{arith}
-use borrow.Author.Rules.{rules}
-use lib.Dec.{eqb}
+use Prim.Native.Nat.{◌+◌, ◌-◌, ◌*◌, ◌≤◌}
+use mathlib.Core.Path.{◌≡◌}
 use lib.ListN.{length}
-use lib.Ieee.{Float}
-use Rattle.mesh.specs.Lent.{Mesh, mesh}
+use Rattle.mesh.specs.Lent.{mesh}
 use Rattle.bounds.specs.State.{state_runs}
-use Rattle.bounds.specs.Forcing.{forcing_length, forcing_at}
-use Rattle.bounds.proofs.ListLaws.{forcing_long}
+use Rattle.bounds.specs.Forcing.{forcing_at}
 use Rattle.passes.specs.Settle.{work_runs}
-use Rattle.passes.specs.Equations.{next_state}
-use Rattle.passes.specs.Private.{of_forcing, later_rows, onward_of, onward}
-use Rattle.passes.proofs.TurnLaws.{listed, Part, part, lent_part, onward_none, onward_stop, onward_more, counts}
+use Rattle.passes.specs.Private.{onward}
 use Rattle.passes.proofs.further.Given as goal
 
 abbrev pub invariant-loop-j : goal.invariant-loop-j
-invariant-loop-j l =     let steps = onward (mesh l.x l.y l.tri l.h l.kind) l.p l.from (forcing_at (length l.x) l.list) in
+invariant-loop-j l = let steps = onward (mesh l.x l.y l.tri l.h l.kind) l.p l.from (forcing_at (length l.x) l.list) in
     ((l.j ≤ l.count) × (l.step ≡ l.from + l.j) × (l.step ≤ 4294967295))
     × ((length l.next ≡ state_runs * length l.x) × (length l.work ≡ work_runs * length l.x) × (length l.sums ≡ length l.x))
     × (steps (l.count - l.j) l.j l.next ≡ steps (l.count - 1) 1 l.initial.next)
-
-abbrev pub decreases-loop-j : goal.decreases-loop-j
-decreases-loop-j l = l.count - l.j

@@ -20,49 +20,53 @@ net s = let a = s.args in mesh a.x.now a.y.now a.tri.now a.h.now a.kind.now
 abbrev lent : Start → Rooms
 lent s = let a = s.args in lent_rooms a.next.now a.work.now a.sums.now
 
-abbrev rows_of : Start → Answer
-rows_of s = let a = s.args in asked (net s) a.p a.state.now a.f.now a.also (lent s)
-
-answered : (c : After-forced_rows-first) → c.forced_rows-first.result ≡ (let a = c.args in asked (net c) a.p a.state.now a.f.now a.also (lent c))
+answered : (c : After-forced_rows-first) → let a = c.args in
+    c.forced_rows-first.result ≡ asked (mesh a.x.now a.y.now a.tri.now a.h.now a.kind.now) a.p a.state.now a.f.now a.also (lent_rooms a.next.now a.work.now a.sums.now)
 answered c =
     let a = c.args in
-    c.forced_rows-first.ensures ∙ ap (λ (q : Answer). forced_rows q ((let a = c.args in mesh a.x.now a.y.now a.tri.now a.h.now a.kind.now)) a.p a.state.now a.also a.f.now) c.rooms_row-asked.ensures
+    c.forced_rows-first.ensures ∙ ap (λ (q : Answer). forced_rows q (mesh a.x.now a.y.now a.tri.now a.h.now a.kind.now) a.p a.state.now a.also a.f.now) c.rooms_row-asked.ensures
 
-passed : (c : Else-first-ne0) → ((let a = c.args in asked (net c) a.p a.state.now a.f.now a.also (lent c))).number ≡ 0
+passed : (c : Else-first-ne0) → let a = c.args in
+    (asked (mesh a.x.now a.y.now a.tri.now a.h.now a.kind.now) a.p a.state.now a.f.now a.also (lent_rooms a.next.now a.work.now a.sums.now)).number ≡ 0
 passed c =
-    let answered : c.forced_rows-first.result ≡ (let a = c.args in asked (net c) a.p a.state.now a.f.now a.also (lent c)) = let a = c.args in
-    c.forced_rows-first.ensures ∙ ap (λ (q : Answer). forced_rows q ((let a = c.args in mesh a.x.now a.y.now a.tri.now a.h.now a.kind.now)) a.p a.state.now a.also a.f.now) c.rooms_row-asked.ensures in
-    same_number (answered) c.if-first-ne0.false
+    let a = c.args in
+    same_number (c.forced_rows-first.ensures ∙ ap (λ (q : Answer). forced_rows q (mesh a.x.now a.y.now a.tri.now a.h.now a.kind.now) a.p a.state.now a.also a.f.now) c.rooms_row-asked.ensures) c.if-first-ne0.false
 
 -- the winds, as they are lent to the passes
 abbrev winds : Start → List Float
 winds s = take (length s.args.f.now - 1) (winds_of s.args.f.now)
 
-long : (c : Else-first-ne0) → length c.args.f.now ≡ 1 + wind_runs * N ((let a = c.args in mesh a.x.now a.y.now a.tri.now a.h.now a.kind.now))
-long c = forcing_long ((let a = c.args in mesh a.x.now a.y.now a.tri.now a.h.now a.kind.now)) c.args.p c.args.state.now c.args.f.now c.args.also ((let a = c.args in lent_rooms a.next.now a.work.now a.sums.now)) (passed c)
+long : (c : Else-first-ne0) → length c.args.f.now ≡ 1 + wind_runs * length c.args.x.now
+long c =
+    let a = c.args in
+    forcing_long (mesh a.x.now a.y.now a.tri.now a.h.now a.kind.now) a.p a.state.now a.f.now a.also (lent_rooms a.next.now a.work.now a.sums.now) (passed c)
 
 pub work_out-requires : goal.work_out-requires
 work_out-requires c =
+    let w = goal.at.work_out-requires c in
     let a = c.args in
-    let ok = passed (goal.at.work_out-requires c).Else-first-ne0 in
-    let f = a.f.now in (
-      fits (net (goal.at.work_out-requires c).Start) a.p a.state.now f a.also (lent (goal.at.work_out-requires c).Start) ok (winds (goal.at.work_out-requires c).Start),
-      (
-        next_long (net (goal.at.work_out-requires c).Start) a.p a.state.now f a.also (lent (goal.at.work_out-requires c).Start) ok,
-        work_long (net (goal.at.work_out-requires c).Start) a.p a.state.now f a.also (lent (goal.at.work_out-requires c).Start) ok,
-        sums_long (net (goal.at.work_out-requires c).Start) a.p a.state.now f a.also (lent (goal.at.work_out-requires c).Start) ok,
-        ap length (past_first f) ∙ long_winds (N (net (goal.at.work_out-requires c).Start)) f (long (goal.at.work_out-requires c).Else-first-ne0),
-      ),
-    )
+    let ok = passed w.Else-first-ne0 in
+    let f = a.f.now in record {
+      fits = fits (net w.Start) a.p a.state.now f a.also (lent w.Start) ok (winds w.Start);
+      next_len = (
+        next_long (net w.Start) a.p a.state.now f a.also (lent w.Start) ok,
+        work_long (net w.Start) a.p a.state.now f a.also (lent w.Start) ok,
+        sums_long (net w.Start) a.p a.state.now f a.also (lent w.Start) ok,
+        ap length (past_first f) ∙ long_winds (N (net w.Start)) f (long w.Else-first-ne0),
+      );
+    }
 
 pub returns : goal.returns
 returns c =
+    let w = goal.at.returns c in
     let a = c.args in
     let e = c.work_out.ensures in
-    worked (net (goal.at.returns c).Start) a.p a.state.now a.f.now a.also (lent (goal.at.returns c).Start) (passed (goal.at.returns c).Else-first-ne0) (past_first a.f.now) e.0.0 e.0.1 e.1.0 e.1.1
+    worked (net w.Start) a.p a.state.now a.f.now a.also (lent w.Start) (passed w.Else-first-ne0) (past_first a.f.now) e.value.0 e.value.1 e.work_after.0 e.work_after.1
 
 pub returns-then-first-ne0 : goal.returns-then-first-ne0
-returns-then-first-ne0 c = stopped (net (goal.at.returns-then-first-ne0 c).Start) c.args.p c.args.state.now c.args.f.now c.args.also (lent (goal.at.returns-then-first-ne0 c).Start) (answered (goal.at.returns-then-first-ne0 c).After-forced_rows-first) c.if-first-ne0.true
+returns-then-first-ne0 c =
+    let w = goal.at.returns-then-first-ne0 c in
+    stopped (net w.Start) c.args.p c.args.state.now c.args.f.now c.args.also (lent w.Start) (answered w.After-forced_rows-first) c.if-first-ne0.true
 
 pub bounds-f-0 : goal.bounds-f-0
 bounds-f-0 c = omega (arith, long (goal.at.bounds-f-0 c).Else-first-ne0)
@@ -75,12 +79,3 @@ slice_bounds-work_out-start c = omega (arith, long (goal.at.slice_bounds-work_ou
 
 pub slice_bounds-work_out-end : goal.slice_bounds-work_out-end
 slice_bounds-work_out-end c = omega (arith, long (goal.at.slice_bounds-work_out-end c).Else-first-ne0)
-
-pub shape_of-next : goal.shape_of-next
-shape_of-next c = c.work_out.auto.next
-
-pub shape_of-work : goal.shape_of-work
-shape_of-work c = c.work_out.auto.work
-
-pub shape_of-sums : goal.shape_of-sums
-shape_of-sums c = c.work_out.auto.sums

@@ -1,10 +1,9 @@
-use Prim.Native.Nat.{ℕ, ◌+◌, ◌-◌, ◌*◌, ◌/◌, ◌<◌, ◌≤◌}
+use Prim.Native.Nat.{ℕ, ◌-◌, ◌*◌, ◌/◌, ◌<◌, ◌≤◌}
 use mathlib.Core.Path.{◌≡◌, sym, ap, ◌∙◌}
 use mathlib.Core.Bool.{not, true}
 use mathlib.Core.List.{List, ◌++◌}
 use native.Mathlib.Nat.{zero-mul}
 use native.Mathlib.Omega.{arith}
-use borrow.Author.Rules.{rules}
 use borrow.Author.Tests.{eqb-false, not-true}
 use lib.Dec.{eqb}
 use lib.ListN.{length, take, drop}
@@ -14,7 +13,7 @@ use Rattle.rows.specs.declared.Answer.{Answer}
 use Rattle.lists.specs.Table.{table, zeros}
 use Rattle.rows.proofs.ScanLaws.{same_number, row_passed}
 use Rattle.limits.specs.Limits.{row11}
-use Rattle.mesh.specs.Lent.{Mesh, mesh, N}
+use Rattle.mesh.specs.Lent.{Mesh, mesh}
 use Rattle.bounds.specs.Forcing.{forcing_length, forcing_at, list_rows}
 use Rattle.bounds.proofs.ForcingLaws.{AcceptedForced, accepted_forced}
 use Rattle.bounds.proofs.ListLaws.{forcing_within}
@@ -34,137 +33,145 @@ net s = let a = s.args in mesh a.x.now a.y.now a.tri.now a.h.now a.kind.now
 abbrev lent : Start → Rooms
 lent s = let a = s.args in lent_rooms a.next.now a.work.now a.sums.now
 
-abbrev rows_of : Start → Answer
-rows_of s = first_rows (net s) s.args.list.now (lent s)
-
-answered : (k : After-list_rows-asked) → k.list_rows-asked.result ≡ (first_rows (net k) k.args.list.now (lent k))
-answered k = k.list_rows-asked.ensures ∙ ap (λ (q : Answer). list_rows q (N ((let a = k.args in mesh a.x.now a.y.now a.tri.now a.h.now a.kind.now))) k.args.list.now) k.rooms_row-lent.ensures
-
-passed : (e : Else-asked-ne0) → ((first_rows (net e) e.args.list.now (lent e))).number ≡ 0
-passed e =
-    let answered : e.list_rows-asked.result ≡ (first_rows (net e) e.args.list.now (lent e)) = e.list_rows-asked.ensures ∙ ap (λ (q : Answer). list_rows q (N ((let a = e.args in mesh a.x.now a.y.now a.tri.now a.h.now a.kind.now))) e.args.list.now) e.rooms_row-lent.ensures in
-    same_number (answered) e.if-asked-ne0.false
+answered : (k : After-list_rows-asked) → let a = k.args in
+    k.list_rows-asked.result ≡ first_rows (mesh a.x.now a.y.now a.tri.now a.h.now a.kind.now) a.list.now (lent_rooms a.next.now a.work.now a.sums.now)
+answered k = k.list_rows-asked.ensures ∙ ap (λ (q : Answer). list_rows q (length k.args.x.now) k.args.list.now) k.rooms_row-lent.ensures
 
 pub returns-then-asked-ne0 : goal.returns-then-asked-ne0
 returns-then-asked-ne0 c =
     let a = c.args in
+    let s = (goal.at.returns-then-asked-ne0 c).Start in
     ap (λ (o : Progress). turns o a.next.now a.work.now a.sums.now) c.unmoved.ensures
-    ∙ list_refused (net (goal.at.returns-then-asked-ne0 c).Start) a.p a.state.now a.step a.list.now (lent (goal.at.returns-then-asked-ne0 c).Start) (answered (goal.at.returns-then-asked-ne0 c).After-list_rows-asked) c.if-asked-ne0.true
+    ∙ list_refused (net s) a.p a.state.now a.step a.list.now (lent s) (answered (goal.at.returns-then-asked-ne0 c).After-list_rows-asked) c.if-asked-ne0.true
+
+-- ---- the rows that come before any forcing have passed
+abbrev net1 : Else-asked-ne0 → Mesh
+net1 e = let a = e.args in mesh a.x.now a.y.now a.tri.now a.h.now a.kind.now
+
+abbrev lent1 : Else-asked-ne0 → Rooms
+lent1 e = let a = e.args in lent_rooms a.next.now a.work.now a.sums.now
+
+passed : (e : Else-asked-ne0) → (first_rows (net1 e) e.args.list.now (lent1 e)).number ≡ 0
+passed e = same_number (e.list_rows-asked.ensures ∙ ap (λ (q : Answer). list_rows q (length e.args.x.now) e.args.list.now) e.rooms_row-lent.ensures) e.if-asked-ne0.false
+
+own_fits : (e : Else-asked-ne0) → work_runs * length e.args.x.now ≤ length e.args.work.now
+own_fits e = let a = e.args in omega (arith, (list_rooms (net1 e) a.p a.state.now a.step a.list.now (lent1 e) (passed e)).work)
+
+list_fits : (e : Else-asked-ne0) → (length e.args.list.now ≡ 0 → ⊥) → forcing_length (length e.args.x.now) ≤ length e.args.list.now
+list_fits e some =
+    let a = e.args in
+    let n = length a.x.now in
+    let some_forcings = counted (net1 e) a.p a.state.now a.step a.list.now (lent1 e) (passed e) some in
+    let w = forcing_within n a.list.now 0 (listed n a.list.now some_forcings) in
+    omega (arith, w, zero-mul (forcing_length n))
 
 -- ---- no forcing
 pub settle_none-requires : goal.settle_none-requires
 settle_none-requires c =
     let a = c.args in
-    (list_rooms (net (goal.at.settle_none-requires c).Start) a.p a.state.now a.step a.list.now (lent (goal.at.settle_none-requires c).Start) (passed (goal.at.settle_none-requires c).Else-asked-ne0)).next
+    let e = (goal.at.settle_none-requires c).Else-asked-ne0 in
+    (list_rooms (net1 e) a.p a.state.now a.step a.list.now (lent1 e) (passed e)).next
 
 pub returns-then-list-eq0 : goal.returns-then-list-eq0
 returns-then-list-eq0 c =
     let a = c.args in
+    let e = (goal.at.returns-then-list-eq0 c).Else-asked-ne0 in
     ap (λ (o : Progress). turns o c.settle_none.new.next a.work.now a.sums.now) c.unmoved-then-list-eq0.ensures
-    ∙ list_none (net (goal.at.returns-then-list-eq0 c).Start) a.p a.state.now a.step a.list.now (lent (goal.at.returns-then-list-eq0 c).Start) (passed (goal.at.returns-then-list-eq0 c).Else-asked-ne0) c.if-list-eq0.true c.settle_none.ensures.0 c.settle_none.ensures.1
+    ∙ list_none (net1 e) a.p a.state.now a.step a.list.now (lent1 e) (passed e) c.if-list-eq0.true c.settle_none.ensures.0 c.settle_none.ensures.1
 
-abbrev ok : (v : After-settle-first) → ((first_rows (net v) v.args.list.now (lent v))).number ≡ 0
-ok v =
-    let passed : ((first_rows (net v) v.args.list.now (lent v))).number ≡ 0 = let answered : v.list_rows-asked.result ≡ (first_rows (net v) v.args.list.now (lent v)) = v.list_rows-asked.ensures ∙ ap (λ (q : Answer). list_rows q (N ((let a = v.args in mesh a.x.now a.y.now a.tri.now a.h.now a.kind.now))) v.args.list.now) v.rooms_row-lent.ensures in
-    same_number (answered) v.if-asked-ne0.false in
-    passed
+-- ---- the first forcing
+abbrev net2 : After-settle-first → Mesh
+net2 v = let a = v.args in mesh a.x.now a.y.now a.tri.now a.h.now a.kind.now
+
+abbrev lent2 : After-settle-first → Rooms
+lent2 v = let a = v.args in lent_rooms a.next.now a.work.now a.sums.now
+
+abbrev Passed : After-settle-first → Type 0
+Passed v = (first_rows (net2 v) v.args.list.now (lent2 v)).number ≡ 0
 
 abbrev left : After-settle-first → Settled
 left v = settled v.settle-first.result v.settle-first.new.next v.settle-first.new.work v.settle-first.new.sums
 
-abbrev its : After-settle-first → Settled
-its v = let a = v.args in one ((let a = v.args in mesh a.x.now a.y.now a.tri.now a.h.now a.kind.now)) a.p a.state.now a.step a.list.now ((let a = v.args in lent_rooms a.next.now a.work.now a.sums.now)) (ok v) v.if-list-eq0.false
+abbrev its : (v : After-settle-first) → Passed v → Settled
+its v ok = let a = v.args in one (net2 v) a.p a.state.now a.step a.list.now (lent2 v) ok v.if-list-eq0.false
 
-settles : (v : After-settle-first) → left v ≡ its v
-settles v =
+settles : (v : After-settle-first) (ok : Passed v) → left v ≡ its v ok
+settles v ok =
     let a = v.args in
-    let long = forcing_length (N ((let a = v.args in mesh a.x.now a.y.now a.tri.now a.h.now a.kind.now))) in
+    let n = length a.x.now in
+    let long = forcing_length n in
     v.settle-first.ensures
-    ∙ (λ i. settle_of ((let a = v.args in mesh a.x.now a.y.now a.tri.now a.h.now a.kind.now)) a.p a.state.now (take long (drop (sym (zero-mul long) i) a.list.now)) (v.may_count.ensures i) (without_added (N ((let a = v.args in mesh a.x.now a.y.now a.tri.now a.h.now a.kind.now))) ((let a = v.args in lent_rooms a.next.now a.work.now a.sums.now))))
-
-number : (v : After-settle-first) → v.settle-first.result.number ≡ (its v).answer.number
-number v = ap (λ (o : Settled). o.answer.number) (settles v)
+    ∙ (λ i. settle_of (net2 v) a.p a.state.now (take long (drop (sym (zero-mul long) i) a.list.now)) (v.may_count.ensures i) (without_added n (lent2 v)))
 
 pub returns-then-first-ne0 : goal.returns-then-first-ne0
 returns-then-first-ne0 c =
+    let w = goal.at.returns-then-first-ne0 c in
     let a = c.args in
-    ap (λ (o : Progress). turns o c.settle-first.new.next (c.settle-first.new.work ++ drop (work_runs * N (net (goal.at.returns-then-first-ne0 c).Start)) a.work.now) c.settle-first.new.sums) c.unmoved-then-first-ne0.ensures
-    ∙ (λ i. with_added (N (net (goal.at.returns-then-first-ne0 c).Start)) (lent (goal.at.returns-then-first-ne0 c).Start) (unmoved a.step (settles (goal.at.returns-then-first-ne0 c).After-settle-first i).answer (settles (goal.at.returns-then-first-ne0 c).After-settle-first i).rooms))
-    ∙ list_stop (net (goal.at.returns-then-first-ne0 c).Start) a.p a.state.now a.step a.list.now (lent (goal.at.returns-then-first-ne0 c).Start) (ok (goal.at.returns-then-first-ne0 c).After-settle-first) c.if-list-eq0.false (λ z. c.if-first-ne0.true (number (goal.at.returns-then-first-ne0 c).After-settle-first ∙ z))
+    let n = length a.x.now in
+    let v = w.After-settle-first in
+    let ok = passed w.Else-asked-ne0 in
+    let same : left v ≡ its v ok = settles v ok in
+    ap (λ (o : Progress). turns o c.settle-first.new.next (c.settle-first.new.work ++ drop (work_runs * n) a.work.now) c.settle-first.new.sums) c.unmoved-then-first-ne0.ensures
+    ∙ (λ i. with_added n (lent2 v) (unmoved a.step (same i).answer (same i).rooms))
+    ∙ list_stop (net2 v) a.p a.state.now a.step a.list.now (lent2 v) ok c.if-list-eq0.false (λ z. c.if-first-ne0.true (ap (λ (o : Settled). o.answer.number) same ∙ z))
 
--- ---- what is lent to it, and to those past it
+-- ---- those past it: the work room after the first, and what is known where that was accepted
+abbrev room : After-settle-first → List Float
+room v = v.settle-first.new.work ++ drop (work_runs * length v.args.x.now) v.args.work.now
 
-abbrev its-start : (e : Else-asked-ne0) → tie.Start
-its-start e = e
+room_length : (v : After-settle-first) → work_runs * length v.args.x.now ≤ length v.args.work.now → length (room v) ≡ length v.args.work.now
+room_length v fits = put_back (work_runs * length v.args.x.now) v.settle-first.new.work v.args.work.now (v.settle-first.auto.work ∙ length-take-le _ _ fits) fits
 
-own_fits : (e : Else-asked-ne0) → work_runs * N (net (its-start e)) ≤ length (its-start e).args.work.now
-own_fits e = let s = (its-start e) in let a = s.args in omega (arith, (list_rooms ((let a = s.args in mesh a.x.now a.y.now a.tri.now a.h.now a.kind.now)) a.p a.state.now a.step a.list.now ((let a = s.args in lent_rooms a.next.now a.work.now a.sums.now)) (passed e)).work)
+accepts : (v : After-settle-first) (ok : Passed v) → v.settle-first.result.number ≡ 0 → (its v ok).answer.number ≡ 0
+accepts v ok h = sym (ap (λ (o : Settled). o.answer.number) (settles v ok)) ∙ h
 
-list_fits : (e : Else-asked-ne0) → (length (its-start e).args.list.now ≡ 0 → ⊥) → forcing_length (N (net (its-start e))) ≤ length (its-start e).args.list.now
-list_fits e some =
-    let s = (its-start e) in
-    let a = s.args in
-    let some-forcings = counted ((let a = s.args in mesh a.x.now a.y.now a.tri.now a.h.now a.kind.now)) a.p a.state.now a.step a.list.now ((let a = s.args in lent_rooms a.next.now a.work.now a.sums.now)) (passed e) some in
-    let w = forcing_within (N ((let a = s.args in mesh a.x.now a.y.now a.tri.now a.h.now a.kind.now))) a.list.now 0 (listed (N ((let a = s.args in mesh a.x.now a.y.now a.tri.now a.h.now a.kind.now))) a.list.now some-forcings) in
-    omega (arith, w, zero-mul (forcing_length (N ((let a = s.args in mesh a.x.now a.y.now a.tri.now a.h.now a.kind.now)))))
+rows : (v : After-settle-first) (ok : Passed v) → v.settle-first.result.number ≡ 0
+    → let a = v.args in
+    let n = length a.x.now in
+    AcceptedForced (row1_rooms (without_added n (lent2 v)) n) (net2 v) a.p a.state.now (row11 a.step) (forcing_at n a.list.now 0)
+rows v ok h =
+    let a = v.args in
+    accepted_forced _ _ _ _ _ _ (first_rows_lem (net2 v) a.p a.state.now a.step a.list.now (lent2 v) ok v.if-list-eq0.false (accepts v ok h))
 
--- ---- those past it
--- the work room after the first, and what is known where that was accepted
-
-abbrev here : (v : After-settle-first) → tie.Start
-here v = v
-
-abbrev own : (v : After-settle-first) → ℕ
-own v = work_runs * N (net (here v))
-
-abbrev room : (v : After-settle-first) → List Float
-room v = v.settle-first.last.1.0 ++ drop (own v) (here v).args.work.now
-
-own_length : (v : After-settle-first) → length v.settle-first.last.1.0 ≡ (own v)
-own_length v =
-    let own_fits : work_runs * N (net (its-start v)) ≤ length (its-start v).args.work.now = let s = (its-start v) in let a = s.args in omega (arith, (list_rooms ((let a = s.args in mesh a.x.now a.y.now a.tri.now a.h.now a.kind.now)) a.p a.state.now a.step a.list.now ((let a = s.args in lent_rooms a.next.now a.work.now a.sums.now)) (passed v)).work) in
-    v.settle-first.kept.1.0 ∙ length-take-le _ _ (own_fits)
-
-room_length : (v : After-settle-first) → length (room v) ≡ length (here v).args.work.now
-room_length v =
-    let own_fits : work_runs * N (net (its-start v)) ≤ length (its-start v).args.work.now = let s = (its-start v) in let a = s.args in omega (arith, (list_rooms ((let a = s.args in mesh a.x.now a.y.now a.tri.now a.h.now a.kind.now)) a.p a.state.now a.step a.list.now ((let a = s.args in lent_rooms a.next.now a.work.now a.sums.now)) (passed v)).work) in
-    put_back (own v) v.settle-first.last.1.0 (here v).args.work.now (own_length v) (own_fits)
-module _ (h : v.settle-first.result.number ≡ 0) where
-  accepts : (its v).answer.number ≡ 0
-  accepts = sym (number v) ∙ h
-  rows : let a = (here v).args in AcceptedForced (row1_rooms (without_added (N (net (here v))) (lent (here v))) (N (net (here v)))) (net (here v)) a.p a.state.now (row11 a.step) (forcing_at (N (net (here v))) a.list.now 0)
-  rows =
-      let a = (here v).args in
-      accepted_forced _ _ _ _ _ _ (first_rows_lem (net (here v)) a.p a.state.now a.step a.list.now (lent (here v)) (ok v) v.if-list-eq0.left accepts)
-  may_count : (here v).args.step < 4294967295
-  unfolding row11
-  may_count =
-      let counts : not (eqb (here v).args.step 4294967295) ≡ true = row_passed _ 10 0 rows.counts in
-      let last = eqb-false (here v).args.step 4294967295 (not-true (eqb (here v).args.step 4294967295) counts) in
-      omega (arith, last, (here v).good)
+-- row 11: the clock can count on
+can_count : (step : ℕ) → (row11 step).number ≡ 0 → step < 4294967296 → step < 4294967295
+unfolding row11
+can_count step e fits =
+    let counts : not (eqb step 4294967295) ≡ true = row_passed _ 10 0 e in
+    let last : step ≡ 4294967295 → ⊥ = eqb-false step 4294967295 (not-true (eqb step 4294967295) counts) in
+    omega (arith, last)
 
 pub rest_of-requires : goal.rest_of-requires
 rest_of-requires c =
+    let w = goal.at.rest_of-requires c in
     let a = c.args in
     let h = c.if-first-ne0.false in
-    let rooms = list_rooms (net (goal.at.rest_of-requires c).Start) a.p a.state.now a.step a.list.now (lent (goal.at.rest_of-requires c).Start) (ok (goal.at.rest_of-requires c).After-settle-first) in (
-      (rows c h).run.shape,
-      (
-        (c.settle-first.auto.next ∙ rooms.next, omega (arith, room_length (goal.at.rest_of-requires c).After-settle-first, own_fits (goal.at.rest_of-requires c).Else-asked-ne0), c.settle-first.auto.sums ∙ rooms.sums),
-        (may_count c h, counted (net (goal.at.rest_of-requires c).Start) a.p a.state.now a.step a.list.now (lent (goal.at.rest_of-requires c).Start) (ok (goal.at.rest_of-requires c).After-settle-first) c.if-list-eq0.false),
-      ),
-    )
+    let e = w.Else-asked-ne0 in
+    let v = w.After-settle-first in
+    let ok = passed e in
+    let rooms = list_rooms (net2 v) a.p a.state.now a.step a.list.now (lent2 v) ok in
+    let all = rows v ok h in record {
+      shaped = all.run.shape;
+      next_len = (c.settle-first.auto.next ∙ rooms.next, omega (arith, room_length v (own_fits e), own_fits e), c.settle-first.auto.sums ∙ rooms.sums);
+      from_bound = (can_count a.step all.counts (omega arith), counted (net2 v) a.p a.state.now a.step a.list.now (lent2 v) ok c.if-list-eq0.false);
+    }
 
 pub returns : goal.returns
 returns c =
+    let w = goal.at.returns c in
     let a = c.args in
+    let e = w.Else-asked-ne0 in
+    let v = w.After-settle-first in
+    let ok = passed e in
     let r = c.rest_of.result in
     let made = c.rest_of.ensures in
-    let new = ap (λ (o : Settled). o.rooms.next) (settles (goal.at.returns c).After-settle-first ∙ first_state (net (goal.at.returns c).Start) a.p a.state.now a.step a.list.now (lent (goal.at.returns c).Start) (ok (goal.at.returns c).After-settle-first) c.if-list-eq0.false (accepts c c.if-first-ne0.false)) in
-    let steps = onward (net (goal.at.returns c).Start) a.p a.step (forcing_at (N (net (goal.at.returns c).Start)) a.list.now) (length a.list.now / forcing_length (N (net (goal.at.returns c).Start)) - 1) 1 in
-    (λ i. record { last = record { answer = r.answer; step = made.0.0 i; rooms = lent_rooms c.rest_of.new.next c.rest_of.new.work c.rest_of.new.sums }; accepted = r.accepted })
-    ∙ list_more (net (goal.at.returns c).Start) a.p a.state.now a.step a.list.now (lent (goal.at.returns c).Start) (ok (goal.at.returns c).After-settle-first) c.if-list-eq0.false (accepts c c.if-first-ne0.false)
-    (made.0.1 ∙ ap steps new) (made.1.0 ∙ ap zeros (room_length (goal.at.returns c).After-settle-first)) (made.1.1 ∙ ap (λ (n : ℕ). table n (λ _. 0)) c.settle-first.auto.sums)
+    let accepted = accepts v ok c.if-first-ne0.false in
+    let new = ap (λ (o : Settled). o.rooms.next) (settles v ok ∙ first_state (net2 v) a.p a.state.now a.step a.list.now (lent2 v) ok c.if-list-eq0.false accepted) in
+    let n = length a.x.now in
+    let steps = onward (net2 v) a.p a.step (forcing_at n a.list.now) (length a.list.now / forcing_length n - 1) 1 in
+    (λ i. record { last = record { answer = r.answer; step = made.step_value.0 i; rooms = lent_rooms c.rest_of.new.next c.rest_of.new.work c.rest_of.new.sums }; accepted = r.accepted })
+    ∙ list_more (net2 v) a.p a.state.now a.step a.list.now (lent2 v) ok c.if-list-eq0.false accepted
+    (made.step_value.1 ∙ ap steps new) (made.work_after.0 ∙ ap zeros (room_length v (own_fits e))) (made.work_after.1 ∙ ap (λ (n : ℕ). table n (λ _. 0)) c.settle-first.auto.sums)
 
 pub slice_bounds-settle-end : goal.slice_bounds-settle-end
 slice_bounds-settle-end c = own_fits (goal.at.slice_bounds-settle-end c).Else-asked-ne0

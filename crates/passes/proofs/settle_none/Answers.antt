@@ -1,6 +1,5 @@
 use mathlib.Core.Path.{◌≡◌, sym, ap, ◌∙◌}
 use mathlib.Core.Bool.{Bool, cond}
-use borrow.Author.Rules.{rules}
 use borrow.Author.Tests.{eq-eqb, ne_eqb}
 use Rattle.rows.specs.declared.Answer.{Answer}
 use Rattle.rows.specs.Scan.{accepted}
@@ -20,8 +19,9 @@ answered c =
 
 pub returns-then-answer-eq0 : goal.returns-then-answer-eq0
 returns-then-answer-eq0 c =
-    let long = (accepted_run _ _ _ _ (same_number (answered (goal.at.returns-then-answer-eq0 c).After-run_rows-answer) c.if-answer-eq0.true)).long in (
-      answered (goal.at.returns-then-answer-eq0 c).After-run_rows-answer,
+    let w = goal.at.returns-then-answer-eq0 c in
+    let long = (accepted_run _ _ _ _ (same_number (answered w.After-run_rows-answer) c.if-answer-eq0.true)).long in (
+      answered w.After-run_rows-answer,
       c.copy.ensures ∙ copied_whole _ _ (c.requires ∙ sym long) ∙ sym (ap (λ (b : Bool). cond b c.args.state.now c.args.next.now) (eq-eqb _ _ c.if-answer-eq0.true)),
     )
 

@@ -1,5 +1,4 @@
 use mathlib.Core.Path.{◌∙◌, sym, ap}
-use borrow.Author.Rules.{rules}
 use lib.Ieee.{to_bits, binary64}
 use Rattle.patterns.proofs.PatternLaws.{ne_self, only_nan}
 use Rattle.patterns.proofs.pattern_of.Goals as goal

@@ -5,7 +5,7 @@ use borrow.Author.Rules.{rules}
 use Rattle.printing.proofs.print_refusal.Goals as goal
 
 pub slice_bounds-bytes-end : goal.slice_bounds-bytes-end
-slice_bounds-bytes-end c = words_fit _ _ c.refusal-words.ensures
+slice_bounds-bytes-end g c = words_fit _ _ c.refusal-words.ensures
 
 pub slice_bounds-print-end : goal.slice_bounds-print-end
-slice_bounds-print-end c = sym (length-take-le _ _ (words_fit _ _ c.refusal-words.ensures))
+slice_bounds-print-end g c = sym (length-take-le _ _ (words_fit _ _ c.refusal-words.ensures))

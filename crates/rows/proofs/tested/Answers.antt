@@ -1,5 +1,4 @@
 use mathlib.Core.Path.{sym, ◌∙◌}
-use borrow.Author.Rules.{rules}
 use Rattle.rows.proofs.ScanLaws.{row_holds, row_fails}
 use Rattle.rows.proofs.tested.Goals as goal
 

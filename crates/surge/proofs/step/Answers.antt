@@ -1,6 +1,5 @@
 use mathlib.Core.Path.{◌≡◌, sym, ap, ◌∙◌}
 use native.Mathlib.Omega.{arith}
-use borrow.Author.Rules.{rules}
 use Rattle.rows.specs.declared.Answer.{Answer}
 use Rattle.limits.specs.Limits.{row11}
 use Rattle.mesh.specs.Lent.{Mesh, mesh}
@@ -24,26 +23,31 @@ abbrev left : After-settle-answer → Settled
 left c = settled c.settle-answer.result c.settle-answer.new.next c.settle-answer.new.work c.settle-answer.new.sums
 
 -- what they were to leave
-abbrev its : Start → Settled
-its s = let a = s.args in settle_of (net s) a.p a.state.now a.f.now (row11 a.clock.step) (lent s)
+abbrev its : After-settle-answer → Settled
+its c =
+    let a = c.args in
+    settle_of (mesh a.x.now a.y.now a.tri.now a.h.now a.kind.now) a.p a.state.now a.f.now (row11 a.clock.step) (lent_rooms a.next.now a.work.now a.sums.now)
 
-answered : (c : After-settle-answer) → left c ≡ (let a = c.args in settle_of (net c) a.p a.state.now a.f.now (row11 a.clock.step) (lent c))
+answered : (c : After-settle-answer) → left c ≡ its c
 answered c =
     let a = c.args in
-    c.settle-answer.ensures ∙ ap (λ (also : Answer). settle_of ((let a = c.args in mesh a.x.now a.y.now a.tri.now a.h.now a.kind.now)) a.p a.state.now a.f.now also ((let a = c.args in lent_rooms a.next.now a.work.now a.sums.now))) c.may_count-also.ensures
+    c.settle-answer.ensures ∙ ap (λ (also : Answer). settle_of (mesh a.x.now a.y.now a.tri.now a.h.now a.kind.now) a.p a.state.now a.f.now also (lent_rooms a.next.now a.work.now a.sums.now)) c.may_count-also.ensures
 
-number : (c : After-settle-answer) → ((let a = c.args in settle_of (net c) a.p a.state.now a.f.now (row11 a.clock.step) (lent c))).answer.number ≡ c.settle-answer.result.number
+number : (c : After-settle-answer) → (its c).answer.number ≡ c.settle-answer.result.number
 number c = sym (ap (λ (o : Settled). o.answer.number) (answered c))
 
 pub returns-then-answer-ne0 : goal.returns-then-answer-ne0
 returns-then-answer-ne0 c =
-    ap (with_clock c.args.clock) (answered (goal.at.returns-then-answer-ne0 c).After-settle-answer) ∙ (made (net (goal.at.returns-then-answer-ne0 c).Start) c.args.p (held (goal.at.returns-then-answer-ne0 c).Start) c.args.f.now (lent (goal.at.returns-then-answer-ne0 c).Start)).refused (λ z. c.if-answer-ne0.true (sym (number (goal.at.returns-then-answer-ne0 c).After-settle-answer) ∙ z))
+    let w = goal.at.returns-then-answer-ne0 c in
+    ap (with_clock c.args.clock) (answered w.After-settle-answer) ∙ (made (net w.Start) c.args.p (held w.Start) c.args.f.now (lent w.Start)).refused (λ z. c.if-answer-ne0.true (sym (number w.After-settle-answer) ∙ z))
 
 pub advanced-requires : goal.advanced-requires
 advanced-requires c =
-    let ok = ((made (net (goal.at.advanced-requires c).Start) c.args.p (held (goal.at.advanced-requires c).Start) c.args.f.now (lent (goal.at.advanced-requires c).Start)).accepted (number (goal.at.advanced-requires c).After-settle-answer ∙ c.if-answer-ne0.false)).0 in
-    omega (arith, not_last (net (goal.at.advanced-requires c).Start) c.args.p (held (goal.at.advanced-requires c).Start) c.args.f.now (lent (goal.at.advanced-requires c).Start) ok)
+    let w = goal.at.advanced-requires c in
+    let ok = ((made (net w.Start) c.args.p (held w.Start) c.args.f.now (lent w.Start)).accepted (number w.After-settle-answer ∙ c.if-answer-ne0.false)).0 in
+    omega (arith, not_last (net w.Start) c.args.p (held w.Start) c.args.f.now (lent w.Start) ok)
 
 pub returns : goal.returns
 returns c =
-    (λ i. with_clock (c.advanced.ensures i) (answered (goal.at.returns c).After-settle-answer i)) ∙ ((made (net (goal.at.returns c).Start) c.args.p (held (goal.at.returns c).Start) c.args.f.now (lent (goal.at.returns c).Start)).accepted (number (goal.at.returns c).After-settle-answer ∙ c.if-answer-ne0.false)).1
+    let w = goal.at.returns c in
+    (λ i. with_clock (c.advanced.ensures i) (answered w.After-settle-answer i)) ∙ ((made (net w.Start) c.args.p (held w.Start) c.args.f.now (lent w.Start)).accepted (number w.After-settle-answer ∙ c.if-answer-ne0.false)).1

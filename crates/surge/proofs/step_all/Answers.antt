@@ -1,5 +1,4 @@
 use mathlib.Core.Path.{ap, ◌∙◌}
-use borrow.Author.Rules.{rules}
 use Rattle.mesh.specs.Lent.{mesh}
 use Rattle.passes.specs.Settle.{lent_rooms}
 use Rattle.passes.specs.InTurn.{Single, list_of}

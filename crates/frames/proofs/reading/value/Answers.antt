@@ -1,4 +1,4 @@
-use Rattle.std.proofs.Common.{◌≡◌, ◌+◌, ◌-◌, ◌/◌, ◌^◌, ◌<◌, ◌≤◌, ◌⊎◌, length, take, drop, sym, refl, ap, inl, inr, ⊎_elim, arith, drop_of_length-le, le-leb}
+use Rattle.std.proofs.Common.{◌≡◌, ◌+◌, ◌/◌, ◌^◌, ◌<◌, ◌≤◌, ◌⊎◌, length, sym, refl, ap, inl, inr, ⊎_elim, arith, drop_of_length-le, le-leb}
 use borrow.Author.Tests.{lt-leb}
 use lib.Seq.{take-nil}
 use Rattle.frames.specs.Bytes.{bytes, number}

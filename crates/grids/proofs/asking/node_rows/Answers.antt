@@ -1,8 +1,8 @@
-use Rattle.std.proofs.Common.{◌≡◌, ℕ, ◌-◌, ◌<◌, ◌≤◌, drop, sym, refl, ap, ◌∙◌, arith, rules, below_none, below_more}
+use Rattle.std.proofs.Common.{◌≡◌, ℕ, drop, sym, refl, ap, ◌∙◌, arith, rules, below_none, below_more}
 use Rattle.grids.specs.Numbers.{after_first}
 use Rattle.grids.specs.Grid.{node_line_rows}
 use Rattle.grids.specs.Private.{after_lines}
-use Rattle.grids.proofs.TextLaws.{asked, ask_more, ask_hit, ask_none, after_more}
+use Rattle.grids.proofs.TextLaws.{ask_more, ask_hit, ask_none, after_more}
 use Rattle.grids.proofs.asking.node_rows.Goals as goal
 
 pub loop-i-init : goal.loop-i-init

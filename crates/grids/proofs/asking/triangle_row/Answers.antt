@@ -1,4 +1,4 @@
-use Rattle.std.proofs.Common.{◌≡◌, ◌∙◌, rules}
+use Rattle.std.proofs.Common.{◌≡◌, ◌∙◌}
 use Rattle.rows.proofs.ScanLaws.{same_number}
 use Rattle.grids.proofs.RowLaws.{triangle_tested, triangle_row, line_next}
 use Rattle.grids.proofs.asking.triangle_row.Goals as goal

@@ -1,8 +1,7 @@
-use Rattle.std.proofs.Common.{◌≡◌, ℕ, ◌-◌, ◌<◌, ◌≤◌, drop, sym, refl, ap, ◌∙◌, arith, rules, below_none, below_more}
-use Rattle.grids.specs.Numbers.{after_first}
+use Rattle.std.proofs.Common.{◌≡◌, ℕ, ◌<◌, ◌≤◌, drop}
 use Rattle.grids.specs.Grid.{triangle_line_rows}
 use Rattle.grids.specs.Private.{after_lines}
-use Rattle.grids.proofs.TextLaws.{asked, ask_more, ask_hit, ask_none, after_more}
+use Rattle.grids.proofs.TextLaws.{asked}
 use Rattle.grids.proofs.asking.triangle_rows.Given as goal
 
 -- i lines were asked and accepted

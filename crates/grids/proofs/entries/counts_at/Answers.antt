@@ -1,4 +1,4 @@
-use Rattle.std.proofs.Common.{refl, rules}
+use Rattle.std.proofs.Common.{refl}
 use Rattle.grids.proofs.FieldLaws.{number_seen}
 use Rattle.grids.proofs.LineLaws.{not_there, line_end, counts_line, counts_none}
 use Rattle.grids.proofs.entries.counts_at.Goals as goal

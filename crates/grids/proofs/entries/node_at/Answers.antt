@@ -1,4 +1,4 @@
-use Rattle.std.proofs.Common.{ℕ, eqb, List, drop, refl, arith, rules}
+use Rattle.std.proofs.Common.{ℕ, eqb, List, drop, refl}
 use Rattle.rows.proofs.ScanLaws.{both_left, both_right}
 use Rattle.grids.specs.Private.{NumberSeen, WholeSeen}
 use Rattle.grids.proofs.LeftLaws.{past_within}
@@ -38,10 +38,6 @@ returns c =
     let both = both_right c.is_number.result _ all in
     node_line_lem (n_seen k) (both_left _ _ all) (x_seen k) (both_left _ _ both) (y_seen k) (both_right c.is_number-2.result _ both)
     c.depth_at-h.ensures.depth_seen (line_end c.skip_rest-end.ensures) _
-
-pub overflow_add-result : goal.overflow_add-result
-overflow_add-result c =
-    record { fits = omega (arith, c.skip_rest-end.ensures.within) }
 
 pub digits_at-x-requires : goal.digits_at-x-requires
 digits_at-x-requires c = past_within 45 refl _ _ c.skip-b.ensures.stop c.past-x_from.ensures c.skip-b.ensures.within

@@ -1,4 +1,4 @@
-use Rattle.std.proofs.Common.{ℕ, List, drop, refl, arith, rules}
+use Rattle.std.proofs.Common.{ℕ, List, drop, refl}
 use Rattle.rows.proofs.ScanLaws.{both_left, both_right}
 use Rattle.grids.specs.Private.{NumberSeen}
 use Rattle.grids.proofs.FieldLaws.{number_seen}
@@ -34,7 +34,3 @@ returns c =
     let r-seen = number_seen c.skip-e.ensures c.digits_at-third.ensures c.is_number-3.ensures in
     let both = c.if-not-is_number-kind.false in
     triangle_line_lem (n_seen k) (both_left _ _ both) (k_seen k) (both_right c.is_number-2.result _ both) p-seen q-seen r-seen (line_end c.skip_rest-end.ensures) _
-
-pub overflow_add-result : goal.overflow_add-result
-overflow_add-result c =
-    record { fits = omega (arith, c.skip_rest-end.ensures.within) }

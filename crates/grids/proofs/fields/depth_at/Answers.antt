@@ -1,4 +1,4 @@
-use Rattle.std.proofs.Common.{◌≡◌, ℕ, ◌-◌, ◌^◌, ◌<◌, ◌≤◌, true, ◌&&◌, ◌||◌, eqb, leb, List, drop, sym, refl, ap, ◌∙◌, arith, rules, leb-true}
+use Rattle.std.proofs.Common.{◌≡◌, ℕ, ◌-◌, ◌^◌, ◌<◌, ◌≤◌, true, ◌&&◌, ◌||◌, eqb, leb, List, drop, sym, refl, ap, ◌∙◌, arith, leb-true}
 use Rattle.rows.proofs.ScanLaws.{both_left, both_right}
 use Rattle.grids.proofs.LeftLaws.{ends_front, starts_front, past_left, past_within}
 use Rattle.grids.proofs.WordLaws.{never}
@@ -53,20 +53,11 @@ returns-clause-depth_seen c =
     (λ s. elim c.if-short.branch [ then-short a ↦ a.size-is ∙ a.thousandths-size.ensures.0 | else-short b ↦ absurd (never (sym s ∙ b.if-short.false)) ])
     (elim c.if-short.branch [ then-short a ↦ omega (arith, a.size-is, a.thousandths-size.ensures.1) | else-short b ↦ omega (arith, b.size-is) ])
 
-pub returns-clause-next_in_bounds : goal.returns-clause-next_in_bounds
-returns-clause-next_in_bounds c = c.digits_at-decimals.ensures.within
-
 pub digits_at-whole-requires : goal.digits_at-whole-requires
 digits_at-whole-requires c = past_within 45 refl _ _ c.skip-gap.ensures.stop c.past-first.ensures c.skip-gap.ensures.within
 
 pub digits_at-decimals-requires : goal.digits_at-decimals-requires
 digits_at-decimals-requires c = past_within 46 refl _ _ c.digits_at-whole.ensures.stop c.past-point.ensures c.digits_at-whole.ensures.within
-
-pub overflow_sub-digits : goal.overflow_sub-digits
-overflow_sub-digits c = omega (arith, c.digits_at-whole.ensures.end)
-
-pub overflow_sub-places : goal.overflow_sub-places
-overflow_sub-places c = omega (arith, c.digits_at-decimals.ensures.end)
 
 pub thousandths-size-requires : goal.thousandths-size-requires
 thousandths-size-requires c = small (goal.at.thousandths-size-requires c).After-digits_at-decimals c.if-short.true

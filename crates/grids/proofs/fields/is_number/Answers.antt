@@ -1,4 +1,3 @@
-use Rattle.std.proofs.Common.{rules}
 use Rattle.grids.proofs.fields.is_number.Goals as goal
 
 pub returns : goal.returns

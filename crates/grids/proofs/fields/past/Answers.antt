@@ -1,4 +1,4 @@
-use Rattle.std.proofs.Common.{rules, eq-eqb, ne_eqb}
+use Rattle.std.proofs.Common.{eq-eqb, ne_eqb}
 use Rattle.grids.proofs.fields.past.Goals as goal
 
 pub returns-then-byte-mark : goal.returns-then-byte-mark

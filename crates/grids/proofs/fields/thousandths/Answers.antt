@@ -1,19 +1,9 @@
-use Rattle.std.proofs.Common.{ℕ, ◌*◌, ◌≤◌, mul-le-mul, arith, rules}
+use Rattle.std.proofs.Common.{ℕ, ◌*◌, ◌≤◌, mul-le-mul, arith}
 use Rattle.grids.proofs.fields.thousandths.Goals as goal
 
 -- the decimals make less than a whole
 below : (d u : ℕ) → d ≤ 999 → u ≤ 1000 → d * u ≤ 999000
 below d u h k = mul-le-mul h k
-
-pub overflow_mul-result-2 : goal.overflow_mul-result-2
-overflow_mul-result-2 c =
-    let b = below c.args.decimals c.unit.result (omega (arith, c.requires.1)) c.unit.ensures.1 in
-    record { fits = omega (arith, b) }
-
-pub overflow_add-result : goal.overflow_add-result
-overflow_add-result c =
-    let b = below c.args.decimals c.unit.result (omega (arith, c.requires.1)) c.unit.ensures.1 in
-    record { fits = omega (arith, b, c.requires.0) }
 
 pub returns : goal.returns
 returns c =

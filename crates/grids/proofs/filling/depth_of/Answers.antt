@@ -13,6 +13,3 @@ unfolding round of_bits decimal
 returns c =
     let d = c.args.d in
     rw (handed d.size c.requires d.minus c.signed_of.ensures)
-
-pub signed_of-requires : goal.signed_of-requires
-signed_of-requires c = c.requires

@@ -1,4 +1,4 @@
-use Rattle.std.proofs.Common.{◌≡◌, ℕ, List, length, drop, ap, ◌∙◌, rules}
+use Rattle.std.proofs.Common.{◌≡◌, ℕ, List, length, drop, ap, ◌∙◌}
 use Rattle.lists.specs.Table.{table}
 use Rattle.grids.specs.Text.{line_of}
 use Rattle.grids.specs.Grid.{Grid, grid, node_line_rows, triangle_line_rows, corner_in}

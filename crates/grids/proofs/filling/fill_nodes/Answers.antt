@@ -1,7 +1,7 @@
-use Rattle.std.proofs.Common.{◌≡◌, ℕ, ◌-◌, ◌*◌, ◌<◌, ◌≤◌, List, length, drop, sym, refl, ap, ◌∙◌, arith, w64, Fits, rules}
+use Rattle.std.proofs.Common.{◌≡◌, ℕ, List, length, drop, sym, refl, ap, ◌∙◌, arith, rules}
 use Rattle.lists.specs.Table.{table}
 use Rattle.lists.specs.Private.{up_to}
-use Rattle.lists.proofs.TableLaws.{length_table, up_none, up_all, fill_more, fill_length}
+use Rattle.lists.proofs.TableLaws.{up_none, up_all, fill_more}
 use Rattle.grids.specs.Text.{line_of, field_of}
 use Rattle.grids.specs.Numbers.{whole_of, depth_of}
 use Rattle.grids.specs.Grid.{node_line_rows, x_in, y_in, h_in}
@@ -35,15 +35,6 @@ at k = k.loop-i.invariant.1.0
 
 ok : (k : After-node_at-its) → (node_line_rows (i k) (present (drop k.loop-i.at k.args.text.now))).number ≡ 0
 ok k = here_accepts (i k) (u k) (at k) node_line_rows (k.requires.by_index (i k) k.loop-i-test.true)
-
-within_x : (k : After-node_at-its) → i k < length k.loop-i.x
-within_x k = omega (arith, fill_length (i k) (x_in (line_of (u k))) k.args.x.now k.loop-i.invariant.1.1.0 k.loop-i.invariant.0, k.loop-i-test.true)
-
-within_y : (k : After-node_at-its) → i k < length k.loop-i.y
-within_y k = omega (arith, fill_length (i k) (y_in (line_of (u k))) k.args.y.now k.loop-i.invariant.1.1.1.0 (omega (arith, k.requires.y_len.0)), k.loop-i-test.true, k.requires.y_len.0)
-
-within_h : (k : After-node_at-its) → i k < length k.loop-i.h
-within_h k = omega (arith, fill_length (i k) (h_in (line_of (u k))) k.args.h.now k.loop-i.invariant.1.1.1.1 (omega (arith, k.requires.y_len.1)), k.loop-i-test.true, k.requires.y_len.1)
 
 pub loop-i-preserved : goal.loop-i-preserved
 loop-i-preserved c =
@@ -94,17 +85,8 @@ returns c = filled (goal.at.returns c).After-loop-i
 pub whole_of-requires : goal.whole_of-requires
 whole_of-requires c = let k = (goal.at.whole_of-requires c).After-node_at-its in x_fits (i k) (seen k) (ok k)
 
-pub bounds-x-i : goal.bounds-x-i
-bounds-x-i c = within_x (goal.at.bounds-x-i c).After-node_at-its
-
 pub whole_of-requires-in-loop-i : goal.whole_of-requires-in-loop-i
 whole_of-requires-in-loop-i c = let k = (goal.at.whole_of-requires-in-loop-i c).After-node_at-its in y_fits (i k) (seen k) (ok k)
 
-pub bounds-y-i : goal.bounds-y-i
-bounds-y-i c = within_y (goal.at.bounds-y-i c).After-node_at-its
-
 pub depth_of-requires : goal.depth_of-requires
 depth_of-requires c = (seen (goal.at.depth_of-requires c).After-node_at-its).h_small
-
-pub bounds-h-i : goal.bounds-h-i
-bounds-h-i c = within_h (goal.at.bounds-h-i c).After-node_at-its

@@ -1,14 +1,8 @@
-use Rattle.std.proofs.Common.{◌≡◌, ℕ, ◌-◌, ◌*◌, ◌<◌, ◌≤◌, List, length, drop, sym, refl, ap, ◌∙◌, arith, w64, Fits, rules}
-use Rattle.lists.specs.Table.{table}
+use Rattle.std.proofs.Common.{◌≡◌, ◌≤◌, drop}
 use Rattle.lists.specs.Private.{up_to}
-use Rattle.lists.proofs.TableLaws.{length_table, up_none, up_all, fill_more, fill_length}
-use Rattle.grids.specs.Text.{line_of, field_of}
-use Rattle.grids.specs.Numbers.{whole_of, depth_of}
-use Rattle.grids.specs.Grid.{node_line_rows, x_in, y_in, h_in}
-use Rattle.grids.specs.Private.{present, after_lines, NodeSeen, NodesFilled}
-use Rattle.grids.specs.declared.entries.NodeLine.{NodeLine}
-use Rattle.grids.proofs.SignLaws.{handed_32}
-use Rattle.grids.proofs.FillLaws.{here, here_accepts, here_after, x_value, y_value, x_fits, y_fits, h_value, node_after}
+use Rattle.grids.specs.Text.{line_of}
+use Rattle.grids.specs.Grid.{x_in, y_in, h_in}
+use Rattle.grids.specs.Private.{after_lines}
 use Rattle.grids.proofs.filling.fill_nodes.Given as goal
 
 -- i nodes are filled

@@ -1,6 +1,6 @@
-use Rattle.std.proofs.Common.{◌≡◌, ℕ, ◌+◌, ◌-◌, ◌*◌, ◌<◌, ◌≤◌, List, length, drop, sym, refl, ap, ◌∙◌, arith, length-set, w64, Fits, rules}
+use Rattle.std.proofs.Common.{◌≡◌, ℕ, ◌+◌, ◌*◌, ◌<◌, List, length, drop, sym, refl, ap, ◌∙◌, arith, rules}
 use Rattle.lists.specs.Private.{up_to}
-use Rattle.lists.proofs.TableLaws.{length_table, up_none, up_all, fill_length}
+use Rattle.lists.proofs.TableLaws.{up_none, up_all}
 use Rattle.grids.specs.Text.{line_of, field_of}
 use Rattle.grids.specs.Numbers.{number_of}
 use Rattle.grids.specs.Grid.{triangle_line_rows, corner_in}
@@ -37,9 +37,6 @@ turn s = omega (arith, s.loop-k-test.true)
 ok : (s : After-triangle_at-its) → (triangle_line_rows s.args.n (k s) (present (drop s.loop-k.at s.args.text.now))).number ≡ 0
 ok s = here_accepts (k s) (u s) (at s) (triangle_line_rows s.args.n) (s.requires.by_index (k s) (omega (arith, turn s)))
 
-within : (s : After-triangle_at-its) → 3 * k s + 2 < length s.loop-k.tri
-within s = omega (arith, fill_length (3 * k s) (corner_in (line_of (u s))) s.args.tri.now s.loop-k.invariant.1.1 (omega (arith, turn s)), turn s)
-
 pub loop-k-preserved : goal.loop-k-preserved
 loop-k-preserved c =
     let s = (goal.at.loop-k-preserved c).After-triangle_at-its in
@@ -67,17 +64,8 @@ returns c =
 pub node_of-requires : goal.node_of-requires
 node_of-requires c = let s = (goal.at.node_of-requires c).After-triangle_at-its in (first_corner s.args.n (k s) (seen s) (ok s)).1
 
-pub bounds-tri-k : goal.bounds-tri-k
-bounds-tri-k c = omega (arith, within (goal.at.bounds-tri-k c).After-triangle_at-its)
-
 pub node_of-requires-in-loop-k : goal.node_of-requires-in-loop-k
 node_of-requires-in-loop-k c = let s = (goal.at.node_of-requires-in-loop-k c).After-triangle_at-its in (second_corner s.args.n (k s) (seen s) (ok s)).1
 
-pub bounds-tri-k-in-loop-k : goal.bounds-tri-k-in-loop-k
-bounds-tri-k-in-loop-k c = simp length-set (omega (arith, within (goal.at.bounds-tri-k-in-loop-k c).After-triangle_at-its))
-
 pub node_of-requires-in-loop-k-2 : goal.node_of-requires-in-loop-k-2
 node_of-requires-in-loop-k-2 c = let s = (goal.at.node_of-requires-in-loop-k-2 c).After-triangle_at-its in (third_corner s.args.n (k s) (seen s) (ok s)).1
-
-pub bounds-tri-k-in-loop-k-2 : goal.bounds-tri-k-in-loop-k-2
-bounds-tri-k-in-loop-k-2 c = simp length-set (omega (arith, within (goal.at.bounds-tri-k-in-loop-k-2 c).After-triangle_at-its))

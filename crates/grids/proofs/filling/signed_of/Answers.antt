@@ -1,4 +1,3 @@
-use Rattle.std.proofs.Common.{rules}
 use Rattle.grids.proofs.SignLaws.{negated_fits, made_minus, made_plus}
 use Rattle.grids.proofs.filling.signed_of.Goals as goal
 

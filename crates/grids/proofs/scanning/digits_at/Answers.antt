@@ -1,4 +1,4 @@
-use Rattle.std.proofs.Common.{ℕ, ◌+◌, ◌-◌, ◌^◌, ◌<◌, ◌≤◌, List, length, refl, arith, rules}
+use Rattle.std.proofs.Common.{ℕ, ◌+◌, ◌<◌, ◌≤◌, length, arith}
 use Rattle.grids.specs.Private.{most}
 use Rattle.grids.proofs.LeftLaws.{digit_none, front_there, digit_yes, digit_no, Going, going_starts, going_more, going_same, going_ends, going_through, grown, few}
 use Rattle.grids.proofs.scanning.digits_at.Goals as goal
@@ -33,36 +33,12 @@ loop-j-preserved c =
 went : (c : Joined-text-from-ge5) → (c.if-text-from-ge5.value ≤ most) × ((c.if-text-from-ge5.at ≤ length c.args.text.now) × Going c.args.text.now c.args.from 0 c.if-text-from-ge5.value c.if-text-from-ge5.at)
 went c =
     elim c.if-text-from-ge5.branch [
-      then-text-from-ge5+else-loop-j-test w ↦ (
+      | then-text-from-ge5+else-loop-j-test w ↦ (
         omega (arith, w.value-is, few w.loop-j.j w.loop-j.value w.loop-j.invariant.1.0 w.loop-j.invariant.0),
         (omega (arith, w.at-is, w.if-text-from-ge5.true, c.requires), going_same w.loop-j.invariant.1.1 w.value-is (omega (arith, w.at-is, w.loop-j.invariant.0, w.loop-j-test.false))),
       )
       | else-text-from-ge5 w ↦ (omega (arith, w.value-is), (omega (arith, w.at-is, c.requires), going_same (going_starts c.args.text.now c.args.from 0) w.value-is w.at-is))
     ]
-
-pub overflow_sub-text : goal.overflow_sub-text
-overflow_sub-text c = omega (arith, c.requires)
-
-pub loop-j-init : goal.loop-j-init
-loop-j-init c = (search rules, (search rules, going_same (going_starts c.args.text.now c.args.from 0) refl (omega arith)))
-
-pub overflow_add-byte : goal.overflow_add-byte
-overflow_add-byte c = record { fits = omega (arith, there (goal.at.overflow_add-byte c).In-loop-j) }
-
-pub bounds-text-from : goal.bounds-text-from
-bounds-text-from c = there (goal.at.bounds-text-from c).In-loop-j
-
-pub overflow_cast-byte : goal.overflow_cast-byte
-overflow_cast-byte c = record { fits = omega (arith, c.type_inv.text (at (goal.at.overflow_cast-byte c).In-loop-j)) }
-
-pub overflow_add-result : goal.overflow_add-result
-overflow_add-result c = record { fits = omega (arith, there (goal.at.overflow_add-result c).In-loop-j) }
-
-pub overflow_mul-value : goal.overflow_mul-value
-overflow_mul-value c = record { fits = omega (arith, small (goal.at.overflow_mul-value c).In-loop-j) }
-
-pub overflow_add-value : goal.overflow_add-value
-overflow_add-value c = record { fits = omega (arith, small (goal.at.overflow_add-value c).In-loop-j, c.if-digit-gt9.false) }
 
 pub digits_rest-requires : goal.digits_rest-requires
 digits_rest-requires c = ((went (goal.at.digits_rest-requires c).Joined-text-from-ge5).1.0, (went (goal.at.digits_rest-requires c).Joined-text-from-ge5).0)

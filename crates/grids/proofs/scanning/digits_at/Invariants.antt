@@ -1,6 +1,5 @@
-use Rattle.std.proofs.Common.{ℕ, ◌+◌, ◌-◌, ◌^◌, ◌<◌, ◌≤◌, List, length, refl, ⊎_elim, arith, rules}
-use Rattle.grids.specs.Private.{most}
-use Rattle.grids.proofs.LeftLaws.{digit_none, front_there, digit_yes, digit_no, Going, going_starts, going_more, going_same, going_ends, going_through, grown, few}
+use Rattle.std.proofs.Common.{◌+◌, ◌^◌, ◌<◌, ◌≤◌}
+use Rattle.grids.proofs.LeftLaws.{Going}
 use Rattle.grids.proofs.scanning.digits_at.Given as goal
 
 -- so few digits need no limit

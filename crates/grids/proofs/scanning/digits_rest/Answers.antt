@@ -1,7 +1,6 @@
-use Rattle.std.proofs.Common.{◌≡◌, ℕ, ◌-◌, ◌≤◌, true, length, get_or, refl, arith, rules}
+use Rattle.std.proofs.Common.{◌≡◌, ℕ, true, get_or, refl, arith}
 use Rattle.grids.specs.Numbers.{is_digit}
-use Rattle.grids.specs.Private.{most}
-use Rattle.grids.proofs.LeftLaws.{digit_range, digit_none, digit_end, front_there, front_end, Going, going_starts, going_more, going_ends}
+use Rattle.grids.proofs.LeftLaws.{digit_range, digit_none, digit_end, front_there, front_end, going_more, going_ends}
 use Rattle.grids.proofs.scanning.digits_rest.Goals as goal
 use Rattle.grids.proofs.scanning.digits_rest.Goals.{At-loop-at}
 
@@ -29,6 +28,3 @@ pub returns : goal.returns
 returns c =
     let over = c.loop-at-test.false in
     going_ends c.loop-at.invariant.1.1 (digit_end _ _ over) (front_end _ _ over) c.loop-at.invariant.1.0
-
-pub loop-at-init : goal.loop-at-init
-loop-at-init c = (c.requires.1, (c.requires.0, going_starts _ _ _))

@@ -1,5 +1,4 @@
-use Rattle.std.proofs.Common.{◌≡◌, ◌-◌, length, drop, sym, refl, ◌∙◌, arith, rules}
-use Rattle.grids.specs.Numbers.{after_first}
+use Rattle.std.proofs.Common.{sym, ◌∙◌}
 use Rattle.grids.proofs.LeftLaws.{line_more, line_last, line_end}
 use Rattle.grids.proofs.scanning.past_line.Goals as goal
 
@@ -11,6 +10,3 @@ loop-at-preserved c = sym (line_more _ _ c.loop-at-test.true c.if-text-at-eq10.f
 
 pub returns : goal.returns
 returns c = sym (line_end _ _ c.loop-at-test.false) ∙ c.loop-at.invariant
-
-pub loop-at-init : goal.loop-at-init
-loop-at-init c = refl

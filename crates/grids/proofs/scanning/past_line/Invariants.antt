@@ -1,6 +1,5 @@
-use Rattle.std.proofs.Common.{◌≡◌, ◌-◌, length, drop, sym, refl, ◌∙◌, arith, rules}
+use Rattle.std.proofs.Common.{◌≡◌, ◌-◌, length, drop}
 use Rattle.grids.specs.Numbers.{after_first}
-use Rattle.grids.proofs.LeftLaws.{line_more, line_last, line_end}
 use Rattle.grids.proofs.scanning.past_line.Given as goal
 
 -- what stands after the line stays the same

@@ -1,6 +1,5 @@
-use Rattle.std.proofs.Common.{◌≡◌, ℕ, ◌+◌, ◌-◌, ◌<◌, ◌≤◌, length, drop, sym, ap, ◌∙◌, arith, rules}
+use Rattle.std.proofs.Common.{◌≡◌, ◌+◌, ◌≤◌, drop}
 use Rattle.grids.specs.Private.{unspaced}
-use Rattle.grids.proofs.LeftLaws.{space_more, space_none, front_there}
 use Rattle.grids.proofs.scanning.skip.Given as goal
 
 -- what is left once its spaces are passed over stays the same

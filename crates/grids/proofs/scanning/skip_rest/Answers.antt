@@ -1,5 +1,4 @@
-use Rattle.std.proofs.Common.{◌≡◌, ◌-◌, ◌≤◌, length, drop, sym, refl, ◌∙◌, arith, rules}
-use Rattle.grids.specs.Private.{unspaced}
+use Rattle.std.proofs.Common.{sym, ◌∙◌, arith}
 use Rattle.grids.proofs.LeftLaws.{space_more, space_none, space_end, front_there, front_end}
 use Rattle.grids.proofs.scanning.skip_rest.Goals as goal
 
@@ -22,6 +21,3 @@ returns c =
       stop = front_end _ _ c.loop-at-test.false;
       within = c.loop-at.invariant.0;
     }
-
-pub loop-at-init : goal.loop-at-init
-loop-at-init c = (c.requires, refl)

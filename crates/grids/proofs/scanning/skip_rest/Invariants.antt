@@ -1,6 +1,5 @@
-use Rattle.std.proofs.Common.{◌≡◌, ◌-◌, ◌≤◌, length, drop, sym, refl, ◌∙◌, arith, rules}
+use Rattle.std.proofs.Common.{◌≡◌, ◌-◌, ◌≤◌, length, drop}
 use Rattle.grids.specs.Private.{unspaced}
-use Rattle.grids.proofs.LeftLaws.{space_more, space_none, space_end, front_there, front_end}
 use Rattle.grids.proofs.scanning.skip_rest.Given as goal
 
 -- what is left once its spaces are passed over stays the same

@@ -1,10 +1,10 @@
-use Prim.Native.Nat.{suc, ◌≤◌, ◌-◌, ◌*◌}
+use Prim.Native.Nat.{suc, ◌-◌}
 use mathlib.Core.Path.{◌≡◌, refl, sym, ◌∙◌}
 use native.Mathlib.Omega.{arith}
 use borrow.Author.Rules.{rules}
-use lib.ListN.{length, length-set}
+use lib.ListN.{length-set}
 use Rattle.frames.specs.Bytes.{digits, field}
-use Rattle.lines.specs.Building.{longest, laid}
+use Rattle.lines.specs.Building.{laid}
 use Rattle.lines.proofs.LaidLaws.{laid_none}
 use Rattle.lines.proofs.BuildLaws.{hex, hex_field, hex_turn, field_digits, appended_room, appended_full}
 use Rattle.lines.proofs.Line.append.Goals as goal

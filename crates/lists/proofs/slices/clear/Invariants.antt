@@ -1,12 +1,7 @@
 use Prim.Native.Nat.{◌≤◌, ◌-◌}
-use mathlib.Core.Path.{◌≡◌, sym, ap, ◌∙◌}
-use native.Mathlib.Omega.{arith}
-use borrow.Author.Rules.{rules}
-use lib.ListN.{length}
-use lib.Ieee.{of_bits}
+use mathlib.Core.Path.{◌≡◌}
 use Rattle.rows.specs.Numbers.{plus0}
 use Rattle.lists.specs.Private.{up_to}
-use Rattle.lists.proofs.TableLaws.{up_none, up_more, up_length, up_all}
 use Rattle.lists.proofs.slices.clear.Given as goal
 
 abbrev pub invariant-loop-i : goal.invariant-loop-i

@@ -1,9 +1,6 @@
-use Prim.Native.Nat.{◌≤◌, ◌-◌}
 use mathlib.Core.Path.{◌≡◌, sym, ap, ◌∙◌}
 use native.Mathlib.Omega.{arith}
-use borrow.Author.Rules.{rules}
 use lib.ListN.{length}
-use Rattle.lists.specs.Private.{up_to}
 use Rattle.lists.proofs.TableLaws.{up_none, up_more, up_length, up_all}
 use Rattle.lists.proofs.slices.clear_whole.Goals as goal
 use Rattle.lists.proofs.slices.clear_whole.Goals.{At-loop-i}

@@ -1,10 +1,10 @@
-use mathlib.Core.Path.{◌≡◌, sym, ap, ◌∙◌}
+use mathlib.Core.Path.{◌≡◌, sym, ◌∙◌}
 use mathlib.Core.Logic.{inl, inr}
 use native.Mathlib.Omega.{arith}
 use Prim.Native.Nat.{◌≤◌, ◌<◌}
 use lib.ListN.{length, get_or}
 use lib.Ieee.{nan}
-use Rattle.lists.proofs.TableLaws.{up_none, up_more, up_length, up_copied}
+use Rattle.lists.proofs.TableLaws.{up_none, up_more, up_copied}
 use Rattle.lists.proofs.slices.copy.Goals as goal
 use Rattle.lists.proofs.slices.copy.Goals.{At-loop-i, Joined-all-to, then-all-to, else-all-to}
 

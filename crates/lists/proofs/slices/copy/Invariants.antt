@@ -1,12 +1,8 @@
-use Prim.Native.Nat.{◌≤◌, ◌<◌, ◌-◌}
-use mathlib.Core.Path.{◌≡◌, sym, ap, ◌∙◌}
-use mathlib.Core.Logic.{inl, inr, ⊎_elim}
-use native.Mathlib.Omega.{arith}
-use borrow.Author.Rules.{rules}
-use lib.ListN.{length, get_or}
+use Prim.Native.Nat.{◌≤◌, ◌-◌}
+use mathlib.Core.Path.{◌≡◌}
+use lib.ListN.{get_or}
 use lib.Ieee.{nan}
 use Rattle.lists.specs.Private.{up_to}
-use Rattle.lists.proofs.TableLaws.{up_none, up_more, up_length, up_copied}
 use Rattle.lists.proofs.slices.copy.Given as goal
 
 abbrev pub invariant-loop-i : goal.invariant-loop-i

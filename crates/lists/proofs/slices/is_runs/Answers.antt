@@ -1,5 +1,4 @@
 use native.Mathlib.Nat.{zero-mul}
-use borrow.Author.Rules.{rules}
 use Rattle.lists.proofs.RunLaws.{runs_test}
 use Rattle.lists.proofs.slices.is_runs.Goals as goal
 

@@ -1,4 +1,3 @@
-use borrow.Author.Rules.{rules}
 use borrow.Author.Tests.{lt-ltb, le-ltb}
 use Rattle.mesh.specs.Lent.{corners_at}
 use Rattle.mesh.proofs.reading.corners_at.Goals as goal

@@ -1,5 +1,4 @@
 use native.Mathlib.Omega.{arith}
-use borrow.Author.Rules.{rules}
 use Rattle.mesh.proofs.reading.node_at.Goals as goal
 
 pub overflow_cast-result : goal.overflow_cast-result

@@ -1,15 +1,9 @@
 use Prim.Native.Nat.{ℕ, ◌-◌, ◌≤◌, ◌<◌}
-use mathlib.Core.Path.{◌≡◌, sym, ◌∙◌}
-use mathlib.Core.Bool.{Bool, true}
-use native.Mathlib.Omega.{arith}
-use borrow.Author.Count.{below_none, below_more}
-use borrow.Author.Rules.{rules}
-use borrow.Author.Tests.{not-true, not-false}
+use mathlib.Core.Path.{◌≡◌}
+use mathlib.Core.Bool.{true}
 use lib.ListN.{get_or}
 use lib.Ieee.{nan}
-use Rattle.rows.proofs.ScanLaws.{row_hit, row_none}
 use Rattle.limits.specs.Limits.{is_node}
-use Rattle.nodes.specs.Rows.{row8}
 use Rattle.nodes.proofs.depths.refused_depth.Given as goal
 
 abbrev pub invariant-loop-i : goal.invariant-loop-i

@@ -1,8 +1,8 @@
-use Prim.Native.Nat.{ℕ, ◌≤◌, ◌<◌}
+use Prim.Native.Nat.{ℕ}
 use mathlib.Core.Path.{◌≡◌, refl, ap, ◌∙◌}
 use mathlib.Core.Bool.{false}
 use native.Mathlib.Omega.{arith}
-use lib.ListN.{length, get_or, length-set, get_or-replicate}
+use lib.ListN.{length, length-set, get_or-replicate}
 use Rattle.rows.specs.Scan.{some}
 use Rattle.lists.proofs.TableLaws.{is_table}
 use Rattle.nodes.specs.Rows.{is_named}
@@ -19,8 +19,7 @@ bounds-seen-node c = c.requires _ c.loop-j-test.true
 pub loop-j-preserved : goal.loop-j-preserved
 loop-j-preserved c =
     let marked = c.loop-j.invariant in
-    let node = c.requires _ c.loop-j-test.true in
-    (
+    let node = c.requires _ c.loop-j-test.true in (
       simp length-set marked.0,
       λ i h. mark_more c.args.tri.now c.loop-j.seen i c.loop-j.j (omega (arith, marked.0, node)) (marked.1 i h),
     )

@@ -1,12 +1,8 @@
-use Prim.Native.Nat.{ℕ, ◌-◌, ◌*◌, ◌≤◌}
-use mathlib.Core.Path.{◌≡◌, sym, ap, ◌∙◌}
+use Prim.Native.Nat.{ℕ, ◌*◌}
+use mathlib.Core.Path.{◌≡◌, ap, ◌∙◌}
 use native.Mathlib.Omega.{arith}
-use borrow.Author.Count.{falls}
-use borrow.Author.Rules.{zero≤}
 use lib.Dec.{lit<}
 use lib.ListN.{length}
-use mir.Syntax.{w64}
-use mir.Facts.{Fits-below}
 use lib.Ieee.{nan}
 use Rattle.lists.specs.Table.{table}
 use Rattle.lists.specs.Private.{past, spread}
@@ -18,7 +14,7 @@ use Rattle.mesh.proofs.SideLaws.{corners_read}
 use Rattle.passes.specs.Equations.{Given, given, count, corners_of, floating, three_of}
 use Rattle.passes.specs.Settle.{work_runs}
 use Rattle.passes.specs.Private.{Fits}
-use Rattle.passes.proofs.PassLaws.{Turned, turn, run_fits, sums_to, S_to, in_run_lem, inside, its_near, its_turn, its_floats, its_area, its_means, its_shares, sum_more, area_more, S_room, sum_none, S_none}
+use Rattle.passes.proofs.PassLaws.{run_fits, sums_to, S_to, in_run_lem, inside, its_near, its_turn, its_floats, its_area, its_means, its_shares, sum_more, area_more, S_room, sum_none, S_none}
 use Rattle.passes.proofs.SettleLaws.{cleared_room}
 use Rattle.passes.proofs.elevations.assemble.Goals as goal
 use Rattle.passes.proofs.elevations.assemble.Goals.{After-corners_at-c, At-loop-t, In-loop-t, Start}
@@ -26,8 +22,14 @@ use Rattle.passes.proofs.elevations.assemble.Goals.{After-corners_at-c, At-loop-
 abbrev its : Start → Given
 its s = let a = s.args in given (mesh a.x.now a.y.now a.tri.now a.h.now a.kind.now) a.p a.state.now a.elevation a.winds.now
 
-fits : (l : At-loop-t) → Fits ((let a = l.args in given (mesh a.x.now a.y.now a.tri.now a.h.now a.kind.now) a.p a.state.now a.elevation a.winds.now))
-fits l = l.requires.0
+abbrev here : At-loop-t → Given
+here l = let a = l.args in given (mesh a.x.now a.y.now a.tri.now a.h.now a.kind.now) a.p a.state.now a.elevation a.winds.now
+
+abbrev read : After-corners_at-c → Given
+read c = let a = c.args in given (mesh a.x.now a.y.now a.tri.now a.h.now a.kind.now) a.p a.state.now a.elevation a.winds.now
+
+fits : (l : At-loop-t) → Fits (here l)
+fits l = l.requires.fits
 
 long : (l : At-loop-t) → length l.loop-t.work ≡ work_runs * length l.args.x.now
 long l = ap length l.loop-t.invariant.1.0 ∙ runs_length _ _
@@ -36,68 +38,74 @@ sums_long : (l : At-loop-t) → length l.loop-t.sums ≡ length l.args.x.now
 sums_long l = ap length l.loop-t.invariant.1.1 ∙ length_table _ _
 
 -- the corners that were read are those of triangle t
-corner : (c : After-corners_at-c) → nodes_of c.corners_at-c.result ≡ corners_of ((let a = c.args in given (mesh a.x.now a.y.now a.tri.now a.h.now a.kind.now) a.p a.state.now a.elevation a.winds.now)) c.loop-t.t
+corner : (c : After-corners_at-c) → nodes_of c.corners_at-c.result ≡ corners_of (read c) c.loop-t.t
 corner c = corners_read _ _ c.loop-t-test.true c.corners_at-c.ensures
-
--- the end of a turn
-turned : (t : In-loop-t) → Turned (E ((let a = t.args in given (mesh a.x.now a.y.now a.tri.now a.h.now a.kind.now) a.p a.state.now a.elevation a.winds.now)).mesh) t.loop-t.t
-turned t =
-    let fits : Fits ((let a = t.args in given (mesh a.x.now a.y.now a.tri.now a.h.now a.kind.now) a.p a.state.now a.elevation a.winds.now)) = t.requires.0 in
-    turn t.loop-t-test.true (Fits-below {w = w64} tt (fits).shape.sized.most_triangles).fits
 
 pub loop-t-init : goal.loop-t-init
 loop-t-init c =
-    (zero≤, (cleared_room (its (goal.at.loop-t-init c).Start) _ c.requires.1.0 c.clear.ensures ∙ sum_none (its (goal.at.loop-t-init c).Start), c.clear_whole.ensures ∙ ap (λ (n : ℕ). table n (λ _. 0)) c.requires.1.1 ∙ S_none (its (goal.at.loop-t-init c).Start)))
+    let w = goal.at.loop-t-init c in
+    (omega arith, (cleared_room (its w.Start) _ c.requires.work_len.0 c.clear.ensures ∙ sum_none (its w.Start), c.clear_whole.ensures ∙ ap (λ (n : ℕ). table n (λ _. 0)) c.requires.work_len.1 ∙ S_none (its w.Start)))
 
 pub places_at-q-requires : goal.places_at-q-requires
 places_at-q-requires c =
-    let z = fits (goal.at.places_at-q-requires c).At-loop-t in
-    (z.shape.sized.y, inside _ z _ c.loop-t-test.true (corner (goal.at.places_at-q-requires c).After-corners_at-c))
+    let w = goal.at.places_at-q-requires c in
+    let z = fits w.At-loop-t in
+    (z.shape.sized.y, inside _ z _ c.loop-t-test.true (corner w.After-corners_at-c))
 
 pub floats_of-s-requires : goal.floats_of-s-requires
 floats_of-s-requires c =
-    its_near _ (fits (goal.at.floats_of-s-requires c).At-loop-t) _ c.loop-t-test.true (corner (goal.at.floats_of-s-requires c).After-corners_at-c) c.places_at-q.ensures c.sides_of-whole.ensures
+    let w = goal.at.floats_of-s-requires c in
+    its_near _ (fits w.At-loop-t) _ c.loop-t-test.true (corner w.After-corners_at-c) c.places_at-q.ensures c.sides_of-whole.ensures
 
 pub means_at-m-requires : goal.means_at-m-requires
 means_at-m-requires c =
-    let z = fits (goal.at.means_at-m-requires c).At-loop-t in
-    (inside _ z _ c.loop-t-test.true (corner (goal.at.means_at-m-requires c).After-corners_at-c), z.shape.sized.h, z.state)
+    let w = goal.at.means_at-m-requires c in
+    let z = fits w.At-loop-t in
+    (inside _ z _ c.loop-t-test.true (corner w.After-corners_at-c), z.shape.sized.h, z.state)
 
 pub spread_advection-requires : goal.spread_advection-requires
 spread_advection-requires c =
-    (inside _ (fits (goal.at.spread_advection-requires c).At-loop-t) _ c.loop-t-test.true (corner (goal.at.spread_advection-requires c).After-corners_at-c), long (goal.at.spread_advection-requires c).At-loop-t)
+    let w = goal.at.spread_advection-requires c in
+    (inside _ (fits w.At-loop-t) _ c.loop-t-test.true (corner w.After-corners_at-c), long w.At-loop-t)
 
 pub spread-requires : goal.spread-requires
 spread-requires c =
-    rw (c.spread_advection.auto.work ∙ long (goal.at.spread-requires c).At-loop-t) (in_run_lem 0 work_runs (lit< tt) (inside _ (fits (goal.at.spread-requires c).At-loop-t) _ c.loop-t-test.true (corner (goal.at.spread-requires c).After-corners_at-c)))
+    let w = goal.at.spread-requires c in
+    rw (c.spread_advection.auto.work ∙ long w.At-loop-t) (in_run_lem 0 work_runs (lit< tt) (inside _ (fits w.At-loop-t) _ c.loop-t-test.true (corner w.After-corners_at-c)))
 
 pub area_of-requires : goal.area_of-requires
 area_of-requires c =
-    let z = fits (goal.at.area_of-requires c).At-loop-t in
+    let w = goal.at.area_of-requires c in
+    let z = fits w.At-loop-t in
     let h = c.loop-t-test.true in
-    (its_near _ z _ h (corner (goal.at.area_of-requires c).After-corners_at-c) c.places_at-q.ensures c.sides_of-whole.ensures, its_turn _ z _ h (corner (goal.at.area_of-requires c).After-corners_at-c) c.places_at-q.ensures c.sides_of-whole.ensures)
+    (its_near _ z _ h (corner w.After-corners_at-c) c.places_at-q.ensures c.sides_of-whole.ensures, its_turn _ z _ h (corner w.After-corners_at-c) c.places_at-q.ensures c.sides_of-whole.ensures)
 
 pub spread_area-requires : goal.spread_area-requires
 spread_area-requires c =
+    let w = goal.at.spread_area-requires c in
     let h = c.loop-t-test.true in
-    let d = its_area _ (fits (goal.at.spread_area-requires c).At-loop-t) _ h (corner (goal.at.spread_area-requires c).After-corners_at-c) c.places_at-q.ensures c.sides_of-whole.ensures c.area_of.ensures in
-    (rw (sums_long (goal.at.spread_area-requires c).At-loop-t) (inside _ (fits (goal.at.spread_area-requires c).At-loop-t) _ h (corner (goal.at.spread_area-requires c).After-corners_at-c)), λ i. S_room _ (fits (goal.at.spread_area-requires c).At-loop-t) c.loop-t.t i h d c.loop-t.invariant.1.1)
+    let d = its_area _ (fits w.At-loop-t) _ h (corner w.After-corners_at-c) c.places_at-q.ensures c.sides_of-whole.ensures c.area_of.ensures in
+    record {
+      below = rw (sums_long w.At-loop-t) (inside _ (fits w.At-loop-t) _ h (corner w.After-corners_at-c));
+      by_index = λ i. S_room _ (fits w.At-loop-t) c.loop-t.t i h d c.loop-t.invariant.1.1;
+    }
 
 pub loop-t-preserved : goal.loop-t-preserved
 loop-t-preserved c =
+    let w = goal.at.loop-t-preserved c in
     let n = length c.args.x.now in
     let at = nodes_of c.corners_at-c.result in
     let h = c.loop-t-test.true in
-    let z = fits (goal.at.loop-t-preserved c).At-loop-t in
+    let z = fits w.At-loop-t in
     let inv = c.loop-t.invariant.1 in
-    let s = its_floats _ z _ h (corner (goal.at.loop-t-preserved c).After-corners_at-c) c.places_at-q.ensures c.sides_of-whole.ensures c.floats_of-s.ensures in (
-      (turned (goal.at.loop-t-preserved c).In-loop-t).next,
+    let s = its_floats _ z _ h (corner w.After-corners_at-c) c.places_at-q.ensures c.sides_of-whole.ensures c.floats_of-s.ensures in (
+      omega arith,
       (
         c.spread.ensures
             ∙ ap (spread floating nan (past (0 * n) at) (three_of c.shares.result)) c.spread_advection.ensures
-            ∙ sum_more _ z _ h (corner (goal.at.loop-t-preserved c).After-corners_at-c) (its_shares _ z _ h (corner (goal.at.loop-t-preserved c).After-corners_at-c) s c.means_at-m.ensures c.shares.ensures) (its_means _ z _ h (corner (goal.at.loop-t-preserved c).After-corners_at-c) s c.means_at-m.ensures) inv.0,
+            ∙ sum_more _ z _ h (corner w.After-corners_at-c) (its_shares _ z _ h (corner w.After-corners_at-c) s c.means_at-m.ensures c.shares.ensures) (its_means _ z _ h (corner w.After-corners_at-c) s c.means_at-m.ensures) inv.0,
         c.spread_area.ensures
-            ∙ area_more _ z _ h (corner (goal.at.loop-t-preserved c).After-corners_at-c) (its_area _ z _ h (corner (goal.at.loop-t-preserved c).After-corners_at-c) c.places_at-q.ensures c.sides_of-whole.ensures c.area_of.ensures) inv.1,
+            ∙ area_more _ z _ h (corner w.After-corners_at-c) (its_area _ z _ h (corner w.After-corners_at-c) c.places_at-q.ensures c.sides_of-whole.ensures c.area_of.ensures) inv.1,
       ),
     )
 
@@ -110,15 +118,3 @@ returns c =
 
 pub overflow_mul-n : goal.overflow_mul-n
 overflow_mul-n c = run_fits 0 tt (fits (goal.at.overflow_mul-n c).At-loop-t).shape.sized.most_nodes
-
-pub overflow_step-t : goal.overflow_step-t
-overflow_step-t c = (turned (goal.at.overflow_step-t c).In-loop-t).fits
-
-pub loop-t-smaller : goal.loop-t-smaller
-loop-t-smaller c = falls _ _ c.loop-t-test.true
-
-pub shape_of-work : goal.shape_of-work
-shape_of-work c = long (goal.at.shape_of-work c).At-loop-t ∙ sym c.requires.1.0
-
-pub shape_of-sums : goal.shape_of-sums
-shape_of-sums c = sums_long (goal.at.shape_of-sums c).At-loop-t ∙ sym c.requires.1.1

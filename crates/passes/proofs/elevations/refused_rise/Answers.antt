@@ -1,8 +1,9 @@
-use Prim.Native.Nat.{ℕ, ◌-◌, ◌≤◌, ◌<◌}
-use mathlib.Core.Path.{◌≡◌, refl, sym, ◌∙◌}
+use Prim.Native.Nat.{ℕ, ◌<◌}
+use native.Mathlib.Omega.{arith}
+use mathlib.Core.Path.{refl, sym, ◌∙◌}
 use native.Mathlib.Nat.{lt_of_lt_of_le}
-use borrow.Author.Count.{falls, below_none, below_more}
-use borrow.Author.Rules.{zero≤, scaled_Fits, below_length}
+use borrow.Author.Count.{below_none, below_more}
+use borrow.Author.Rules.{scaled_Fits, below_length}
 use lib.ListN.{length, get_or}
 use lib.Ieee.{Float, nan}
 use Rattle.lists.specs.Runs.{in_run}
@@ -41,7 +42,7 @@ returns c =
     λ g eh ew en. c.accept.ensures ∙ sym (scan_none (row (goal.at.returns c).At-loop-i) _ (λ k h. c.loop-i.invariant.1 k (lt_of_lt_of_le h c.loop-i-test.false))) ∙ rises_read g eh ew en
 
 pub loop-i-init : goal.loop-i-init
-loop-i-init c = (zero≤, below_none _)
+loop-i-init c = (omega arith, below_none _)
 
 pub offset_bounds-h-i : goal.offset_bounds-h-i
 offset_bounds-h-i c = scaled_Fits _ _ 8 (in-h (goal.at.offset_bounds-h-i c).In-loop-i) c.well_formed.1.0.1
@@ -60,9 +61,3 @@ offset_bounds-work-n c = (at (goal.at.offset_bounds-work-n c).In-loop-i).bytes
 
 pub bounds-work-n : goal.bounds-work-n
 bounds-work-n c = (at (goal.at.bounds-work-n c).In-loop-i).within
-
-pub overflow_step-i : goal.overflow_step-i
-overflow_step-i c = (turned (goal.at.overflow_step-i c).In-loop-i).fits
-
-pub loop-i-smaller : goal.loop-i-smaller
-loop-i-smaller c = falls _ _ c.loop-i-test.true

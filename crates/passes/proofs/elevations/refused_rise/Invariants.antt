@@ -1,20 +1,10 @@
-use Prim.Native.Nat.{ℕ, ◌-◌, ◌≤◌, ◌<◌}
-use mathlib.Core.Path.{◌≡◌, refl, sym, ◌∙◌}
-use native.Mathlib.Nat.{lt_of_lt_of_le}
-use borrow.Author.Count.{falls, below_none, below_more}
-use borrow.Author.Rules.{zero≤, scaled_Fits, below_length}
-use lib.ListN.{length, get_or}
-use lib.Ieee.{Float, nan}
+use Prim.Native.Nat.{ℕ, ◌≤◌, ◌<◌}
+use mathlib.Core.Path.{◌≡◌}
+use lib.ListN.{get_or}
+use lib.Ieee.{nan}
 use Rattle.lists.specs.Runs.{in_run}
-use Rattle.rows.specs.declared.Answer.{Answer}
-use Rattle.rows.proofs.ScanLaws.{scan_none, scan_hit, same_number, other_number}
 use Rattle.outcomes.specs.Outcomes.{rise_row}
-use Rattle.passes.specs.Settle.{work_runs}
-use Rattle.passes.proofs.PassLaws.{Place, place, Turned, turn, rises_read}
 use Rattle.passes.proofs.elevations.refused_rise.Given as goal
 
 abbrev pub invariant-loop-i : goal.invariant-loop-i
 invariant-loop-i l = (l.i ≤ l.n) × ((k : ℕ) → k < l.i → (rise_row (get_or l.h k nan) (in_run l.n 0 l.work k) k).number ≡ 0)
-
-abbrev pub decreases-loop-i : goal.decreases-loop-i
-decreases-loop-i l = l.n - l.i

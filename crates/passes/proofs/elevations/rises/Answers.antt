@@ -1,8 +1,8 @@
-use Prim.Native.Nat.{ℕ, ◌-◌, ◌*◌, ◌≤◌, ◌<◌}
-use mathlib.Core.Path.{◌≡◌, refl, sym, ap, ◌∙◌}
+use Prim.Native.Nat.{ℕ, ◌*◌, ◌<◌}
+use native.Mathlib.Omega.{arith}
+use mathlib.Core.Path.{◌≡◌, refl, ap, ◌∙◌}
 use native.Mathlib.Nat.{le_antisymm}
-use borrow.Author.Count.{falls}
-use borrow.Author.Rules.{zero≤, scaled_Fits, below_length}
+use borrow.Author.Rules.{below_length}
 use lib.Dec.{eqb}
 use lib.ListN.{length}
 use Rattle.rows.specs.declared.Answer.{Answer}
@@ -15,7 +15,7 @@ use Rattle.passes.specs.Equations.{Given, given, count, node, rise}
 use Rattle.outcomes.specs.Outcomes.{rise_row}
 use Rattle.passes.specs.Settle.{work_runs}
 use Rattle.passes.specs.Private.{Fits, rise_room}
-use Rattle.passes.proofs.PassLaws.{Place, place, turn, rises_to, its_rise, rise_more, rise_none, rise_all}
+use Rattle.passes.proofs.PassLaws.{Place, place, rises_to, its_rise, rise_more, rise_none, rise_all}
 use Rattle.passes.proofs.elevations.rises.Goals as goal
 use Rattle.passes.proofs.elevations.rises.Goals.{After-loop-i, At-loop-i, In-loop-i, Start}
 
@@ -27,63 +27,60 @@ abbrev its : Start → Given
 its s = let a = s.args in given (mesh a.x.now a.y.now a.tri.now a.h.now a.kind.now) a.p a.state.now a.elevation a.winds.now
 
 abbrev here : At-loop-i → Given
-here l = (let a = l.args in given (mesh a.x.now a.y.now a.tri.now a.h.now a.kind.now) a.p a.state.now a.elevation a.winds.now)
+here l = let a = l.args in given (mesh a.x.now a.y.now a.tri.now a.h.now a.kind.now) a.p a.state.now a.elevation a.winds.now
 
 fits : (l : At-loop-i) → Fits (here l)
-fits l = l.requires.0
+fits l = l.requires.fits
 
 long : (l : At-loop-i) → length l.loop-i.work ≡ work_runs * length l.args.x.now
 long l = ap length l.loop-i.invariant.1.0 ∙ runs_length _ _
 
-same : (l : At-loop-i) → length l.loop-i.work ≡ length l.args.work.now
-same l = long l ∙ sym (ap length l.requires.1.0 ∙ runs_length _ _)
-
-sums_long : (l : At-loop-i) → length l.args.sums.now ≡ length l.args.x.now
-sums_long l = ap length l.requires.1.1 ∙ length_table _ _
+abbrev last : After-loop-i → Given
+last c = let a = c.args in given (mesh a.x.now a.y.now a.tri.now a.h.now a.kind.now) a.p a.state.now a.elevation a.winds.now
 
 -- after the last turn every z' stands in the room
-done : (c : After-loop-i) → c.loop-i.i ≡ count (((let a = c.args in given (mesh a.x.now a.y.now a.tri.now a.h.now a.kind.now) a.p a.state.now a.elevation a.winds.now)))
+done : (c : After-loop-i) → c.loop-i.i ≡ count (last c)
 done c = le_antisymm c.loop-i.invariant.0 c.loop-i-test.false
 
-all : (c : After-loop-i) → c.loop-i.work ≡ rise_room (((let a = c.args in given (mesh a.x.now a.y.now a.tri.now a.h.now a.kind.now) a.p a.state.now a.elevation a.winds.now)))
-all c = c.loop-i.invariant.1.0 ∙ ap (rises_to (((let a = c.args in given (mesh a.x.now a.y.now a.tri.now a.h.now a.kind.now) a.p a.state.now a.elevation a.winds.now)))) (done c) ∙ rise_all (((let a = c.args in given (mesh a.x.now a.y.now a.tri.now a.h.now a.kind.now) a.p a.state.now a.elevation a.winds.now)))
+all : (c : After-loop-i) → c.loop-i.work ≡ rise_room (last c)
+all c = c.loop-i.invariant.1.0 ∙ ap (rises_to (last c)) (done c) ∙ rise_all (last c)
 
 -- place i of the sums, and of the run of z'
 in-sums : (t : In-loop-i) → t.loop-i.i < length t.args.sums.now
 in-sums t =
-    let sums_long : length t.args.sums.now ≡ length t.args.x.now = ap length t.requires.1.1 ∙ length_table _ _ in
-    below_length ℕ t.args.sums.now _ _ (sums_long) t.loop-i-test.true
+    let sums_long : length t.args.sums.now ≡ length t.args.x.now = ap length t.requires.work_value.1 ∙ length_table _ _ in
+    below_length ℕ t.args.sums.now _ _ sums_long t.loop-i-test.true
 
 at : (t : In-loop-i) → Place 0 (length t.args.x.now) t.loop-i.i (length t.loop-i.work)
 at t =
     let long : length t.loop-i.work ≡ work_runs * length t.args.x.now = ap length t.loop-i.invariant.1.0 ∙ runs_length _ _ in
-    let same : length t.loop-i.work ≡ length t.args.work.now = long t ∙ sym (ap length t.requires.1.0 ∙ runs_length _ _) in
-    place 0 work_runs tt t.loop-i-test.true (long) (same) t.well_formed.0.1
+    place 0 work_runs tt t.loop-i-test.true long t.loop-i.auto.work t.well_formed.0.1
 
 pub loop-i-init : goal.loop-i-init
-loop-i-init c = (zero≤, (c.requires.1.0 ∙ rise_none (its (goal.at.loop-i-init c).Start), all_none _))
+loop-i-init c = (omega arith, (c.requires.work_value.0 ∙ rise_none (its (goal.at.loop-i-init c).Start), all_none _))
 
 pub loop-i-preserved : goal.loop-i-preserved
 loop-i-preserved c =
-    let g = here (goal.at.loop-i-preserved c).At-loop-i in
+    let w = goal.at.loop-i-preserved c in
+    let g = here w.At-loop-i in
     let i = c.loop-i.i in
     let h = c.loop-i-test.true in
-    let r = its_rise g (fits (goal.at.loop-i-preserved c).At-loop-i) i h c.requires.1.1 c.loop-i.invariant.1.0 c.node_of-c.ensures c.sum_of-s.ensures c.rise_of-z.ensures in
+    let r = its_rise g (fits w.At-loop-i) i h c.requires.work_value.1 c.loop-i.invariant.1.0 c.node_of-c.ensures c.sum_of-s.ensures c.rise_of-z.ensures in
     let asked = c.rise_row.ensures ∙ (λ j. rise_row (c.node_of-c.ensures j).h (r j) i) in
-    ((turn h c.well_formed.1.1.0.0).next, (rise_more g (fits (goal.at.loop-i-preserved c).At-loop-i) i h c.loop-i.invariant.1.0 r, all_more (row_at g) i c.loop-i.invariant.1.1 (ap (λ (a : Answer). eqb c.number 0) asked)))
+    (omega arith, (rise_more g (fits w.At-loop-i) i h c.loop-i.invariant.1.0 r, all_more (row_at g) i c.loop-i.invariant.1.1 (ap (λ (a : Answer). eqb a.number 0) asked)))
 
 pub returns-then-all : goal.returns-then-all
 returns-then-all c =
-    (c.accept.ensures ∙ all_accept (row_at (here (goal.at.returns-then-all c).At-loop-i)) _ c.loop-i.invariant.1.1 c.if-all.true ∙ ap (scan _) (done (goal.at.returns-then-all c).After-loop-i), all (goal.at.returns-then-all c).After-loop-i)
+    let w = goal.at.returns-then-all c in
+    (c.accept.ensures ∙ all_accept (row_at (here w.At-loop-i)) _ c.loop-i.invariant.1.1 c.if-all.true ∙ ap (scan _) (done w.After-loop-i), all w.After-loop-i)
 
 pub returns-else-all : goal.returns-else-all
-returns-else-all c = (c.refused_rise.ensures (here (goal.at.returns-else-all c).At-loop-i) refl (all (goal.at.returns-else-all c).After-loop-i) refl, all (goal.at.returns-else-all c).After-loop-i)
+returns-else-all c =
+    let w = goal.at.returns-else-all c in
+    (c.refused_rise.ensures (here w.At-loop-i) refl (all w.After-loop-i) refl, all w.After-loop-i)
 
 pub node_of-c-requires : goal.node_of-c-requires
 node_of-c-requires c = let z = fits (goal.at.node_of-c-requires c).At-loop-i in (c.loop-i-test.true, z.shape.sized.h, z.state)
-
-pub offset_bounds-sums-i : goal.offset_bounds-sums-i
-offset_bounds-sums-i c = scaled_Fits _ _ 8 (in-sums (goal.at.offset_bounds-sums-i c).In-loop-i) c.good.1.0.1
 
 pub bounds-sums-i : goal.bounds-sums-i
 bounds-sums-i c = in-sums (goal.at.bounds-sums-i c).In-loop-i
@@ -115,17 +112,7 @@ offset_bounds-work-n-in-loop-i c = (at (goal.at.offset_bounds-work-n-in-loop-i c
 pub bounds-work-n-in-loop-i : goal.bounds-work-n-in-loop-i
 bounds-work-n-in-loop-i c = (at (goal.at.bounds-work-n-in-loop-i c).In-loop-i).within
 
-pub overflow_step-i : goal.overflow_step-i
-overflow_step-i c = (turn c.loop-i-test.true c.good.1.1.0.0).fits
-
-pub loop-i-smaller : goal.loop-i-smaller
-loop-i-smaller c = falls _ _ c.loop-i-test.true
-
 pub refused_rise-requires : goal.refused_rise-requires
-refused_rise-requires c = ((fits (goal.at.refused_rise-requires c).At-loop-i).shape.sized.h, long (goal.at.refused_rise-requires c).At-loop-i)
-
-pub shape_of-work-then-all : goal.shape_of-work-then-all
-shape_of-work-then-all c = same (goal.at.shape_of-work-then-all c).At-loop-i
-
-pub shape_of-work-else-all : goal.shape_of-work-else-all
-shape_of-work-else-all c = same (goal.at.shape_of-work-else-all c).At-loop-i
+refused_rise-requires c =
+    let w = goal.at.refused_rise-requires c in
+    ((fits w.At-loop-i).shape.sized.h, long w.At-loop-i)

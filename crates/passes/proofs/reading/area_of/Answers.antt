@@ -16,8 +16,9 @@ its c = kept c.twice_area.type_inv c.twice_area.ensures
 
 pub overflow_cast-result : goal.overflow_cast-result
 overflow_cast-result c =
+    let w = goal.at.overflow_cast-result c in
     let p = c.requires in
-    (subst (λ (z : ℤ). T (non_neg z)) (sym (its (goal.at.overflow_cast-result c).After-twice_area ∙ p.1)) tt, record { fits = omega (arith, ap nat_abs (its (goal.at.overflow_cast-result c).After-twice_area), (all_small _ p.0).d.size) })
+    (subst (λ (z : ℤ). T (non_neg z)) (sym (its w.After-twice_area ∙ p.1)) tt, record { fits = omega (arith, ap nat_abs (its w.After-twice_area), (all_small _ p.0).d.size) })
 
 pub returns : goal.returns
 returns c = ap nat_abs (its (goal.at.returns c).After-twice_area)

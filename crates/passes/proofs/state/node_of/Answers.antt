@@ -1,6 +1,5 @@
 use Prim.Native.Nat.{ℕ}
 use mathlib.Core.Path.{refl}
-use borrow.Author.Rules.{rules}
 use lib.Dec.{T, ltb}
 use lib.ListN.{length}
 use Rattle.bounds.specs.State.{state_runs}

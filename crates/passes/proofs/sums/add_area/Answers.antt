@@ -1,6 +1,5 @@
 use mathlib.Core.Path.{refl}
 use Rattle.lists.specs.Private.{added_at}
-use borrow.Author.Rules.{rules}
 use Rattle.passes.proofs.sums.add_area.Goals as goal
 
 pub returns : goal.returns

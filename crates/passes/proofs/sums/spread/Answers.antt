@@ -1,5 +1,4 @@
 use mathlib.Core.Path.{◌∙◌}
-use borrow.Author.Rules.{rules}
 use Rattle.lists.specs.Private.{spread}
 use Rattle.passes.proofs.sums.spread.Goals as goal
 

@@ -1,6 +1,5 @@
 use Prim.Native.Nat.{◌*◌}
 use mathlib.Core.Path.{ap, ◌∙◌}
-use borrow.Author.Rules.{rules}
 use lib.Dec.{lit<}
 use lib.Ieee.{Float, nan}
 use Rattle.lists.specs.Gather.{Three}

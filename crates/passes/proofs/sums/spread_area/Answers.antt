@@ -5,7 +5,6 @@ use lib.ListN.{length, get_or}
 use Rattle.lists.specs.Gather.{whole}
 use Rattle.lists.specs.Private.{spread}
 use Rattle.lists.proofs.GatherLaws.{length_added, added_le}
-use borrow.Author.Rules.{rules}
 use Rattle.passes.proofs.sums.spread_area.Goals as goal
 use Rattle.passes.proofs.sums.spread_area.Goals.{After-add_area, After-add_area-2}
 
@@ -25,18 +24,21 @@ long2 c =
 free2 : (c : After-add_area-2) (i : ℕ) → get_or c.add_area-2.new.sums i 0 + c.args.d < 2 ^ 53
 free2 c i =
     let long1 : length c.add_area.new.sums ≡ length c.args.sums.now = ap length c.add_area.ensures ∙ length_added whole 0 _ _ _ in
-    rw c.add_area-2.ensures (omega (arith, added_le c.add_area.new.sums c.args.c.n2 c.args.d i (rw (long1) c.requires.below.second), free1 c i))
+    let free1 : get_or c.add_area.new.sums i 0 + 2 * c.args.d < 2 ^ 53 = rw c.add_area.ensures (omega (arith, added_le c.args.sums.now c.args.c.n1 c.args.d i c.requires.below.first, c.requires.by_index i)) in
+    rw c.add_area-2.ensures (omega (arith, added_le c.add_area.new.sums c.args.c.n2 c.args.d i (rw long1 c.requires.below.second), free1))
 
 pub add_area-requires : goal.add_area-requires
 add_area-requires c = (c.requires.below.first, omega (arith, c.requires.by_index c.args.c.n1))
 
 pub add_area-requires-2 : goal.add_area-requires-2
 add_area-requires-2 c =
-    (rw (long1 (goal.at.add_area-requires-2 c).After-add_area) c.requires.below.second, omega (arith, free1 (goal.at.add_area-requires-2 c).After-add_area c.args.c.n2))
+    let w = goal.at.add_area-requires-2 c in
+    (rw (long1 w.After-add_area) c.requires.below.second, omega (arith, free1 w.After-add_area c.args.c.n2))
 
 pub add_area-requires-3 : goal.add_area-requires-3
 add_area-requires-3 c =
-    (rw (long2 (goal.at.add_area-requires-3 c).After-add_area-2) c.requires.below.third, free2 (goal.at.add_area-requires-3 c).After-add_area-2 c.args.c.n3)
+    let w = goal.at.add_area-requires-3 c in
+    (rw (long2 w.After-add_area-2) c.requires.below.third, free2 w.After-add_area-2 c.args.c.n3)
 
 pub returns : goal.returns
 unfolding spread

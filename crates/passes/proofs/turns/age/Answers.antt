@@ -1,37 +1,21 @@
-use Prim.Native.Nat.{◌+◌, ◌-◌, ◌*◌, ◌<◌, ◌≤◌}
+use Prim.Native.Nat.{◌+◌, ◌*◌, ◌<◌}
 use mathlib.Core.Path.{◌≡◌, sym, ap, ◌∙◌}
 use mathlib.Core.List.{List}
 use native.Mathlib.Nat.{zero-mul, one-mul}
 use native.Mathlib.Omega.{arith}
-use borrow.Author.Rules.{scaled_Fits}
-use mir.Syntax.{w64}
-use mir.Val.{Fits}
 use lib.ListN.{length, get_or, set}
 use lib.Ieee.{Float, nan}
 use Rattle.lists.specs.Runs.{in_run}
 use Rattle.lists.specs.Private.{up_to, with_run}
-use Rattle.lists.proofs.TableLaws.{up_none, up_more, up_length, up_ahead}
+use Rattle.lists.proofs.TableLaws.{up_none, up_more, up_ahead}
 use Rattle.bounds.specs.State.{state_runs}
 use Rattle.passes.proofs.PassLaws.{Place, place}
 use Rattle.passes.proofs.turns.age.Goals as goal
-use Rattle.passes.proofs.turns.age.Goals.{At-loop-i, In-loop-i}
-
-long : (l : At-loop-i) → length l.loop-i.next ≡ length l.args.next.now
-long l = ap length l.loop-i.invariant.1 ∙ up_length _ _ _ (omega (arith, l.requires))
+use Rattle.passes.proofs.turns.age.Goals.{In-loop-i}
 
 -- where z of the node stands
 at : (t : In-loop-i) → Place 1 t.args.n t.loop-i.i (length t.loop-i.next)
-at t =
-    let long : length t.loop-i.next ≡ length t.args.next.now = ap length t.loop-i.invariant.1 ∙ up_length _ _ _ (omega (arith, t.requires)) in
-    place 1 state_runs tt t.loop-i-test.true (long ∙ t.requires) (long) t.well_formed.0.1
-
-inside : (t : In-loop-i) → t.loop-i.i < length t.loop-i.next
-inside t = omega (arith, (at t).within)
-
-bytes : (t : In-loop-i) → Fits w64 (t.loop-i.i * 8)
-bytes t =
-    let long : length t.loop-i.next ≡ length t.args.next.now = ap length t.loop-i.invariant.1 ∙ up_length _ _ _ (omega (arith, t.requires)) in
-    scaled_Fits _ _ 8 (rw (long) at (inside t)) t.well_formed.0.1
+at t = place 1 state_runs tt t.loop-i-test.true (t.loop-i.auto.next ∙ t.requires) t.loop-i.auto.next t.well_formed.0.1
 
 pub loop-i-preserved : goal.loop-i-preserved
 loop-i-preserved c =
@@ -64,12 +48,3 @@ offset_bounds-next-n c = (at (goal.at.offset_bounds-next-n c).In-loop-i).bytes
 
 pub bounds-next-n : goal.bounds-next-n
 bounds-next-n c = (at (goal.at.bounds-next-n c).In-loop-i).within
-
-pub offset_bounds-next-i : goal.offset_bounds-next-i
-offset_bounds-next-i c = bytes (goal.at.offset_bounds-next-i c).In-loop-i
-
-pub bounds-next-i : goal.bounds-next-i
-bounds-next-i c = inside (goal.at.bounds-next-i c).In-loop-i
-
-pub shape_of-next : goal.shape_of-next
-shape_of-next c = long (goal.at.shape_of-next c).At-loop-i

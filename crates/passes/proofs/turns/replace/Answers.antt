@@ -1,5 +1,4 @@
 use mathlib.Core.Path.{◌∙◌}
-use borrow.Author.Rules.{rules}
 use Rattle.passes.proofs.SettleLaws.{published}
 use Rattle.passes.proofs.turns.replace.Goals as goal
 

@@ -1,6 +1,5 @@
 use mathlib.Core.Path.{sym, ap, ◌∙◌}
 use mathlib.Core.Bool.{Bool, cond}
-use borrow.Author.Rules.{rules}
 use borrow.Author.Tests.{eq-eqb, ne_eqb}
 use Rattle.mesh.specs.Lent.{mesh}
 use Rattle.passes.specs.Equations.{Given, given, next_state}
@@ -13,9 +12,9 @@ its s = let a = s.args in given (mesh a.x.now a.y.now a.tri.now a.h.now a.kind.n
 
 pub returns-then-answer-eq0 : goal.returns-then-answer-eq0
 returns-then-answer-eq0 c =
-    (
+    let w = goal.at.returns-then-answer-eq0 c in (
       c.solve-answer.ensures.0,
-      next_state_lem (its (goal.at.returns-then-answer-eq0 c).Start) (c.solve-answer.ensures.1 c.if-answer-eq0.true) c.replace.ensures ∙ sym (ap (λ (b : Bool). cond b (next_state (its (goal.at.returns-then-answer-eq0 c).Start)) c.args.next.now) (eq-eqb _ _ c.if-answer-eq0.true)),
+      next_state_lem (its w.Start) (c.solve-answer.ensures.1 c.if-answer-eq0.true) c.replace.ensures ∙ sym (ap (λ (b : Bool). cond b (next_state (its w.Start)) c.args.next.now) (eq-eqb _ _ c.if-answer-eq0.true)),
     )
 
 pub returns-else-answer-eq0 : goal.returns-else-answer-eq0

@@ -1,8 +1,7 @@
-use Prim.Native.Nat.{ℕ, ◌-◌, ◌*◌, ◌≤◌}
-use mathlib.Core.Path.{◌≡◌, refl, sym, ap, ◌∙◌}
+use Prim.Native.Nat.{ℕ, ◌*◌}
+use native.Mathlib.Omega.{arith}
+use mathlib.Core.Path.{◌≡◌, refl, ap, ◌∙◌}
 use native.Mathlib.Nat.{le_antisymm}
-use borrow.Author.Count.{falls}
-use borrow.Author.Rules.{zero≤}
 use lib.Dec.{T, ltb, eqb}
 use lib.ListN.{length, length-set}
 use Rattle.rows.specs.declared.Answer.{Answer}
@@ -15,7 +14,7 @@ use Rattle.passes.specs.Equations.{Given, given, count, flow_at}
 use Rattle.outcomes.specs.Outcomes.{flow_row}
 use Rattle.passes.specs.Settle.{work_runs}
 use Rattle.passes.specs.Private.{Fits, flow_room}
-use Rattle.passes.proofs.PassLaws.{Place, place, turn, flows_to, its_flow, flow_more, flow_none, flow_all}
+use Rattle.passes.proofs.PassLaws.{Place, place, flows_to, its_flow, flow_more, flow_none, flow_all}
 use Rattle.passes.proofs.velocities.flows.Goals as goal
 use Rattle.passes.proofs.velocities.flows.Goals.{After-loop-i, At-loop-i, In-loop-i, Start}
 
@@ -27,50 +26,53 @@ abbrev its : Start → Given
 its s = let a = s.args in given (mesh a.x.now a.y.now a.tri.now a.h.now a.kind.now) a.p a.state.now a.elevation a.winds.now
 
 abbrev here : At-loop-i → Given
-here l = (let a = l.args in given (mesh a.x.now a.y.now a.tri.now a.h.now a.kind.now) a.p a.state.now a.elevation a.winds.now)
+here l = let a = l.args in given (mesh a.x.now a.y.now a.tri.now a.h.now a.kind.now) a.p a.state.now a.elevation a.winds.now
 
 fits : (l : At-loop-i) → Fits (here l)
-fits l = l.requires.0
+fits l = l.requires.fits
 
 -- the room's length, so that each place of its runs is within it
 long : (l : At-loop-i) → length l.loop-i.work ≡ work_runs * length l.args.x.now
 long l = ap length l.loop-i.invariant.1.0 ∙ runs_length _ _
 
-same : (l : At-loop-i) → length l.loop-i.work ≡ length l.args.work.now
-same l = long l ∙ sym (ap length l.requires.1.0 ∙ runs_length _ _)
+abbrev last : After-loop-i → Given
+last c = let a = c.args in given (mesh a.x.now a.y.now a.tri.now a.h.now a.kind.now) a.p a.state.now a.elevation a.winds.now
 
 -- after the last turn every U' and V' stands in the room
-done : (c : After-loop-i) → c.loop-i.i ≡ count (((let a = c.args in given (mesh a.x.now a.y.now a.tri.now a.h.now a.kind.now) a.p a.state.now a.elevation a.winds.now)))
+done : (c : After-loop-i) → c.loop-i.i ≡ count (last c)
 done c = le_antisymm c.loop-i.invariant.0 c.loop-i-test.false
 
-all : (c : After-loop-i) → c.loop-i.work ≡ flow_room (((let a = c.args in given (mesh a.x.now a.y.now a.tri.now a.h.now a.kind.now) a.p a.state.now a.elevation a.winds.now)))
-all c = let g = ((let a = c.args in given (mesh a.x.now a.y.now a.tri.now a.h.now a.kind.now) a.p a.state.now a.elevation a.winds.now)) in c.loop-i.invariant.1.0 ∙ ap (flows_to g) (done c) ∙ flow_all g
+all : (c : After-loop-i) → c.loop-i.work ≡ flow_room (last c)
+all c = let g = last c in c.loop-i.invariant.1.0 ∙ ap (flows_to g) (done c) ∙ flow_all g
 
 -- place i of run k
 at : (t : In-loop-i) (k : ℕ) → T (ltb k work_runs) → Place k (length t.args.x.now) t.loop-i.i (length t.loop-i.work)
 at t k h =
     let long : length t.loop-i.work ≡ work_runs * length t.args.x.now = ap length t.loop-i.invariant.1.0 ∙ runs_length _ _ in
-    let same : length t.loop-i.work ≡ length t.args.work.now = long t ∙ sym (ap length t.requires.1.0 ∙ runs_length _ _) in
-    place k work_runs h t.loop-i-test.true (long) (same) t.well_formed.0.1
+    place k work_runs h t.loop-i-test.true long t.loop-i.auto.work t.well_formed.0.1
 
 pub loop-i-preserved : goal.loop-i-preserved
 loop-i-preserved c =
-    let g = here (goal.at.loop-i-preserved c).At-loop-i in
+    let w = goal.at.loop-i-preserved c in
+    let g = here w.At-loop-i in
     let i = c.loop-i.i in
     let h = c.loop-i-test.true in
-    let r = its_flow g (fits (goal.at.loop-i-preserved c).At-loop-i) i h c.requires.1.1 c.loop-i.invariant.1.0 c.flow_at-v.ensures in
+    let r = its_flow g (fits w.At-loop-i) i h c.requires.work_value.1 c.loop-i.invariant.1.0 c.flow_at-v.ensures in
     let asked = c.flow_row.ensures ∙ (λ j. flow_row (r j) i) in
-    ((turn h c.well_formed.1.1.0.0).next, (flow_more g (fits (goal.at.loop-i-preserved c).At-loop-i) i h c.loop-i.invariant.1.0 r, all_more (row_at g) i c.loop-i.invariant.1.1 (ap (λ (a : Answer). eqb c.number 0) asked)))
+    (omega arith, (flow_more g (fits w.At-loop-i) i h c.loop-i.invariant.1.0 r, all_more (row_at g) i c.loop-i.invariant.1.1 (ap (λ (a : Answer). eqb a.number 0) asked)))
 
 pub returns-then-all : goal.returns-then-all
 returns-then-all c =
-    (c.accept.ensures ∙ all_accept (row_at (here (goal.at.returns-then-all c).At-loop-i)) _ c.loop-i.invariant.1.1 c.if-all.true ∙ ap (scan _) (done (goal.at.returns-then-all c).After-loop-i), all (goal.at.returns-then-all c).After-loop-i)
+    let w = goal.at.returns-then-all c in
+    (c.accept.ensures ∙ all_accept (row_at (here w.At-loop-i)) _ c.loop-i.invariant.1.1 c.if-all.true ∙ ap (scan _) (done w.After-loop-i), all w.After-loop-i)
 
 pub returns-else-all : goal.returns-else-all
-returns-else-all c = (c.refused_flow.ensures (here (goal.at.returns-else-all c).At-loop-i) (all (goal.at.returns-else-all c).After-loop-i) refl, all (goal.at.returns-else-all c).After-loop-i)
+returns-else-all c =
+    let w = goal.at.returns-else-all c in
+    (c.refused_flow.ensures (here w.At-loop-i) (all w.After-loop-i) refl, all w.After-loop-i)
 
 pub loop-i-init : goal.loop-i-init
-loop-i-init c = (zero≤, (c.requires.1.0 ∙ flow_none (its (goal.at.loop-i-init c).Start), all_none _))
+loop-i-init c = (omega arith, (c.requires.work_value.0 ∙ flow_none (its (goal.at.loop-i-init c).Start), all_none _))
 
 pub overflow_mul-z : goal.overflow_mul-z
 overflow_mul-z c = (at (goal.at.overflow_mul-z c).In-loop-i 0 tt).run
@@ -156,17 +158,9 @@ offset_bounds-work-n-in-loop-i-6 c = (at (goal.at.offset_bounds-work-n-in-loop-i
 pub bounds-work-n-in-loop-i-6 : goal.bounds-work-n-in-loop-i-6
 bounds-work-n-in-loop-i-6 c = simp length-set (at (goal.at.bounds-work-n-in-loop-i-6 c).In-loop-i 2 tt).within
 
-pub overflow_step-i : goal.overflow_step-i
-overflow_step-i c = (turn c.loop-i-test.true c.good.1.1.0.0).fits
-
-pub loop-i-smaller : goal.loop-i-smaller
-loop-i-smaller c = falls _ _ c.loop-i-test.true
-
 pub refused_flow-requires : goal.refused_flow-requires
 refused_flow-requires c = long (goal.at.refused_flow-requires c).At-loop-i
 
-pub shape_of-work-then-all : goal.shape_of-work-then-all
-shape_of-work-then-all c = same (goal.at.shape_of-work-then-all c).At-loop-i
-
-pub shape_of-work-else-all : goal.shape_of-work-else-all
-shape_of-work-else-all c = same (goal.at.shape_of-work-else-all c).At-loop-i
+pub flow_at-v-requires-clause-kind_len : goal.flow_at-v-requires-clause-kind_len
+flow_at-v-requires-clause-kind_len c =
+    ((fits (goal.at.flow_at-v-requires-clause-kind_len c).At-loop-i).shape.sized.kind, c.requires.work_value.2, ap length c.requires.work_value.1 ∙ length_table _ _)

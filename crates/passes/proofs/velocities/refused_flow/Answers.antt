@@ -1,8 +1,8 @@
-use Prim.Native.Nat.{ℕ, ◌-◌, ◌≤◌, ◌<◌}
-use mathlib.Core.Path.{◌≡◌, refl, sym, ◌∙◌}
+use Prim.Native.Nat.{ℕ}
+use native.Mathlib.Omega.{arith}
+use mathlib.Core.Path.{refl, sym, ◌∙◌}
 use native.Mathlib.Nat.{lt_of_lt_of_le}
-use borrow.Author.Count.{falls, below_none, below_more}
-use borrow.Author.Rules.{zero≤}
+use borrow.Author.Count.{below_none, below_more}
 use lib.Dec.{T, ltb}
 use lib.ListN.{length}
 use Rattle.lists.specs.Runs.{in_run}
@@ -38,7 +38,7 @@ returns c =
     λ g ew en. c.accept.ensures ∙ sym (scan_none (row (goal.at.returns c).At-loop-i) _ (λ k h. c.loop-i.invariant.1 k (lt_of_lt_of_le h c.loop-i-test.false))) ∙ flows_read g ew en
 
 pub loop-i-init : goal.loop-i-init
-loop-i-init c = (zero≤, below_none _)
+loop-i-init c = (omega arith, below_none _)
 
 pub overflow_mul-u : goal.overflow_mul-u
 overflow_mul-u c = (at (goal.at.overflow_mul-u c).In-loop-i 1 tt).run
@@ -63,9 +63,3 @@ offset_bounds-work-n-in-loop-i c = (at (goal.at.offset_bounds-work-n-in-loop-i c
 
 pub bounds-work-n-in-loop-i : goal.bounds-work-n-in-loop-i
 bounds-work-n-in-loop-i c = (at (goal.at.bounds-work-n-in-loop-i c).In-loop-i 2 tt).within
-
-pub overflow_step-i : goal.overflow_step-i
-overflow_step-i c = (turned (goal.at.overflow_step-i c).In-loop-i).fits
-
-pub loop-i-smaller : goal.loop-i-smaller
-loop-i-smaller c = falls _ _ c.loop-i-test.true

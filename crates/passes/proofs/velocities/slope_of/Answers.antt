@@ -1,4 +1,3 @@
-use borrow.Author.Rules.{rules}
 use Rattle.passes.specs.Private.{slope_of}
 use Rattle.passes.proofs.velocities.slope_of.Goals as goal
 

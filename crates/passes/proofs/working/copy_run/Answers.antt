@@ -1,4 +1,3 @@
-use borrow.Author.Rules.{rules}
 use lib.Ieee.{nan}
 use Rattle.lists.proofs.RunLaws.{run_copied}
 use Rattle.passes.proofs.working.copy_run.Goals as goal

@@ -1,5 +1,4 @@
 use mathlib.Core.Path.{◌∙◌}
-use borrow.Author.Rules.{rules}
 use Rattle.passes.proofs.working.write_new.Goals as goal
 
 pub returns : goal.returns
