@@ -2,6 +2,7 @@
 // and a length, and a record as the numbers that it holds: those that come back, or go in and come back, through a pointer each, the others as
 // themselves. The refusal number is the result. No length is tested here: the product's row 1 does it, so a call answers exactly as the product's.
 #![tactic(auto)]
+
 ghost use Rattle.std.specs.Prelude.{◌≡◌};
 ghost use Rattle.mesh.specs.Lent.{mesh};
 ghost use Rattle.surge.specs.Lent.{run, after};

@@ -1,5 +1,6 @@
 // The static library of the calls on a run: each export is the call of the same name of `capi`, with its clauses. include/surge.h declares them.
 #![tactic(auto)]
+
 ghost use Rattle.std.specs.Prelude.{◌≡◌};
 ghost use Rattle.mesh.specs.Lent.{mesh};
 ghost use Rattle.surge.specs.Lent.{run, after};
@@ -33,7 +34,9 @@ pub extern "C" fn surge_open(
 ) -> u32
     ensures { after (reply (answer result place.new value.new) (clock step.new)) state.new ≡ open_of (mesh x.now y.now tri.now h.now kind.now) (parameters dt tau k f advection) state.old }
 {
-    capi::surge_open(state, place, value, step, x, y, tri, h, kind, dt, tau, k, f, advection)
+    capi::surge_open(
+        state, place, value, step, x, y, tri, h, kind, dt, tau, k, f, advection,
+    )
 }
 
 // Steps. The clock goes in and comes back.
@@ -61,7 +64,8 @@ pub extern "C" fn surge_step(
     ensures { step_out (reply (answer result place.new value.new) (clock step.new)) next.new work.new sums.new ≡ step_of (mesh x.now y.now tri.now h.now kind.now) (parameters dt tau k f advection) (run state.now (clock step.old)) forcing.now (lent_rooms next.old work.old sums.old) }
 {
     capi::surge_step(
-        next, work, sums, place, value, step, state, forcing, x, y, tri, h, kind, dt, tau, k, f, advection,
+        next, work, sums, place, value, step, state, forcing, x, y, tri, h, kind, dt, tau, k, f,
+        advection,
     )
 }
 
@@ -91,7 +95,8 @@ pub extern "C" fn surge_step_all(
     ensures { list_out (list_reply (reply (answer result place.new value.new) (clock step.new)) accepted.new) next.new work.new sums.new ≡ step_all_of (mesh x.now y.now tri.now h.now kind.now) (parameters dt tau k f advection) (run state.now (clock step.old)) forcings.now (lent_rooms next.old work.old sums.old) }
 {
     capi::surge_step_all(
-        next, work, sums, place, value, step, accepted, state, forcings, x, y, tri, h, kind, dt, tau, k, f, advection,
+        next, work, sums, place, value, step, accepted, state, forcings, x, y, tri, h, kind, dt,
+        tau, k, f, advection,
     )
 }
 
@@ -116,7 +121,9 @@ pub extern "C" fn surge_save(
 ) -> u32
     ensures { save_out (answer result place.new value.new) text.new ≡ save_of (mesh x.now y.now tri.now h.now kind.now) (parameters dt tau k f advection) state.now (clock step) text.old }
 {
-    capi::surge_save(text, place, value, state, x, y, tri, h, kind, dt, tau, k, f, advection, step)
+    capi::surge_save(
+        text, place, value, state, x, y, tri, h, kind, dt, tau, k, f, advection, step,
+    )
 }
 
 // Loads. The clock goes in, since a refusal leaves it as found, and comes back.
@@ -140,7 +147,9 @@ pub extern "C" fn surge_load(
 ) -> u32
     ensures { after (reply (answer result place.new value.new) (clock step.new)) state.new ≡ load_of (mesh x.now y.now tri.now h.now kind.now) (parameters dt tau k f advection) text.now state.old (clock step.old) }
 {
-    capi::surge_load(state, place, value, step, text, x, y, tri, h, kind, dt, tau, k, f, advection)
+    capi::surge_load(
+        state, place, value, step, text, x, y, tri, h, kind, dt, tau, k, f, advection,
+    )
 }
 
 // Reads a forcing into a room. The room is written only where the reading is accepted.

@@ -2,6 +2,7 @@
 // its binary64 pattern, one a line, and last the clock's step number. The file `stdout` beside src/ holds what the independent second program gives. Standard
 // error says of a write that fails why it did.
 #![tactic(auto)]
+
 use quantities::Parameters;
 use std::io;
 

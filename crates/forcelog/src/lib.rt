@@ -1,5 +1,6 @@
 // A log of forcings, taken one by one on mesh T: what the printing program does, but for its reading and writing.
 #![tactic(auto)]
+
 ghost use Rattle.std.specs.Prelude.{◌≡◌};
 ghost use Rattle.saves.specs.Save.{save_out};
 ghost use Rattle.forcelog.specs.Log.{cold_log, stepped, lines_in, later, refused_at, after_step, take_of, end_of};

@@ -1,6 +1,7 @@
 // The gauges of the harbour masters' board, for C programs to link: include/gauges.h declares the calls. Every slice that crosses is bytes, big-endian.
 // What comes back goes through a pointer each, and the refusal number is the result.
 #![tactic(auto)]
+
 ghost use Rattle.std.specs.Prelude.{◌≡◌, ◌≤◌, ltb, get_or};
 ghost use Rattle.rows.specs.Scan.{row, scan};
 ghost use Rattle.keeping.specs.Keeping.{add_out, update_out};

@@ -1,5 +1,6 @@
 // The static library of the gauges' calls: each export is the call of the same name of `gauges`, with its clauses. include/gauges.h declares them.
 #![tactic(auto)]
+
 ghost use Rattle.std.specs.Prelude.{◌≡◌};
 ghost use Rattle.keeping.specs.Keeping.{add_out, update_out};
 ghost use Rattle.looking.specs.Lent.{lent};
@@ -26,7 +27,9 @@ pub extern "C" fn gauge_locate(
 ) -> u32
     ensures { located (answer result place.new value.new) triangle.new ≡ locate_of (lent state.now x.now y.now tri.now h.now kind.now (parameters dt tau k f)) (point px py) }
 {
-    gauges::gauge_locate(triangle, place, value, state, x, y, tri, h, kind, dt, tau, k, f, px, py)
+    gauges::gauge_locate(
+        triangle, place, value, state, x, y, tri, h, kind, dt, tau, k, f, px, py,
+    )
 }
 
 // Adds a gauge at a point.
@@ -51,7 +54,9 @@ pub extern "C" fn gauge_add(
 ) -> u32
     ensures { add_out (given (answer result place.new value.new) gauge.new) kept.new ≡ add_of (lent state.now x.now y.now tri.now h.now kind.now (parameters dt tau k f)) kept.old (point px py) }
 {
-    gauges::gauge_add(kept, gauge, place, value, state, x, y, tri, h, kind, dt, tau, k, f, px, py)
+    gauges::gauge_add(
+        kept, gauge, place, value, state, x, y, tri, h, kind, dt, tau, k, f, px, py,
+    )
 }
 
 // The elevation at a gauge, in the state that is lent.
@@ -100,7 +105,9 @@ pub extern "C" fn gauge_update(
 ) -> u32
     ensures { update_out (answer result place.new value.new) kept.new ≡ update_of (lent state.now x.now y.now tri.now h.now kind.now (parameters dt tau k f)) kept.old step }
 {
-    gauges::gauge_update(kept, place, value, state, x, y, tri, h, kind, dt, tau, k, f, step)
+    gauges::gauge_update(
+        kept, place, value, state, x, y, tri, h, kind, dt, tau, k, f, step,
+    )
 }
 
 // What a record has of a gauge.

@@ -1,5 +1,6 @@
 // The peak record: what it holds, its refusals, and what is written into it.
 #![tactic(auto)]
+
 ghost use Rattle.std.specs.Prelude.{◌≡◌, ◌+◌, ◌*◌, ◌<◌, ◌≤◌, get_or};
 ghost use Rattle.std.specs.Float.{nan};
 ghost use Rattle.keeping.specs.Record.{row_bytes, field_in, seen_field, count_in, point_in, points_in, mark_in, with_mark, with_point, added, noted, all_noted, row43, keeps};

@@ -1,5 +1,6 @@
 // Loads: a run from its text, and the laws of the way back.
 #![tactic(auto)]
+
 pub(crate) mod loading;
 
 ghost use Rattle.std.specs.Prelude.{◌≡◌};

@@ -1,5 +1,6 @@
 // Where a point lies in a mesh, and what elevation a state has there, after rows 1 to 10 of the refusal table.
 #![tactic(auto)]
+
 pub mod seeking;
 
 ghost use Rattle.std.specs.Prelude.{◌≡◌, ◌*◌, length};

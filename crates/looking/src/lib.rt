@@ -1,6 +1,7 @@
 // What is seen at points, in a mesh and a state that are lent as bytes. They are decoded into arrays of full size, and what a step asks of its slices is
 // asked of these.
 #![tactic(auto)]
+
 ghost use Rattle.std.specs.Prelude.{◌≡◌, length};
 ghost use Rattle.location.specs.Survey.{survey_of};
 ghost use Rattle.looking.specs.Lent.{Lent, lent, mesh_in, state_in, row1_bytes};

@@ -1,3 +1,4 @@
 pub mod OrderLaws
 pub mod LevelLaws
+pub mod HighestLaws
 pub mod PeakLaws

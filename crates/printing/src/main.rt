@@ -3,6 +3,7 @@
 // read whole: forcelog's law `by_wholes` says that this prints the same as cutting the input at its line feeds. A read that fails is no end of input:
 // nothing is printed then, and standard error says why, as it does of a write that fails.
 #![tactic(auto)]
+
 ghost use Rattle.std.specs.Prelude.{◌≤◌, ◌≡◌, length, IfOk};
 ghost use Rattle.io.specs.Counts.{IsPrefixLen};
 ghost use Rattle.forcelog.specs.Printed.{ending, due_of};

@@ -1,5 +1,6 @@
 // Saves: the text of a run.
 #![tactic(auto)]
+
 pub(crate) mod writing;
 
 ghost use Rattle.std.specs.Prelude.{◌≡◌};

@@ -1,4 +1,4 @@
-use mathlib.Core.Path.{refl, ap, ◌∙◌}
+use mathlib.Core.Path.{ap, ◌∙◌}
 use lib.Ieee.{round, of_bits}
 use Rattle.lists.specs.Table.{table}
 use Rattle.rows.specs.Numbers.{decimal}

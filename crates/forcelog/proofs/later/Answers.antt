@@ -1,6 +1,5 @@
 use Prim.Native.Nat.{◌+◌, ◌^◌}
 use native.Mathlib.Omega.{arith}
-use borrow.Author.Rules.{rules}
 use borrow.Author.Tests.{lt-ltb, le-ltb}
 use Rattle.forcelog.specs.Log.{later}
 use Rattle.forcelog.proofs.later.Goals as goal

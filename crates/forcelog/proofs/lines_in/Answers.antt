@@ -1,4 +1,3 @@
-use borrow.Author.Rules.{rules}
 use Rattle.forcelog.proofs.lines_in.Goals as goal
 
 pub returns-then-starts : goal.returns-then-starts

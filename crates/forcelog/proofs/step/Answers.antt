@@ -1,4 +1,4 @@
-use mathlib.Core.Path.{◌≡◌, refl, ◌∙◌}
+use mathlib.Core.Path.{◌≡◌, ◌∙◌}
 use lib.Ieee.{round, of_bits}
 use Rattle.lists.specs.Table.{table}
 use Rattle.rows.specs.Numbers.{decimal}
@@ -7,7 +7,6 @@ use Rattle.forcelog.specs.declared.Log.{Log}
 use Rattle.forcelog.specs.MeshT.{T, T_parameters}
 use Rattle.forcelog.specs.Log.{stepped}
 use Rattle.forcelog.proofs.LogLaws.{step_refused, step_gone}
-use borrow.Author.Rules.{rules}
 use Rattle.forcelog.proofs.step.Goals as goal
 use Rattle.forcelog.proofs.step.Goals.{After-step-reply}
 

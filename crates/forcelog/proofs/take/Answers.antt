@@ -4,7 +4,6 @@ use Rattle.lists.specs.Table.{table}
 use Rattle.forcings.specs.Forcings.{Taken, taken}
 use Rattle.forcelog.specs.Log.{reading}
 use Rattle.forcelog.proofs.LogLaws.{not_read, was_read}
-use borrow.Author.Rules.{rules}
 use Rattle.forcelog.proofs.take.Goals as goal
 use Rattle.forcelog.proofs.take.Goals.{After-read_forcing-fault}
 

@@ -35,12 +35,13 @@ returns c =
     let r = c.args.kept.now in
     let g = c.args.gauge in
     let answered : c.first-a.result ≡ elevation_answer (b l) r g =
-        c.first-a.ensures
-        ∙ ap (λ (a : Answer). c.look_at-look.result.answer then a) (c.first.ensures ∙ (λ i. c.number_rows.ensures i then c.tested-inside.ensures i))
-        ∙ sight_then (b l) (q l) (seen l) (λ inside. number_rows r g then row inside 40 g) in
+    c.first-a.ensures
+    ∙ ap (λ (a : Answer). c.look_at-look.result.answer then a) (c.first.ensures ∙ (λ i. c.number_rows.ensures i then c.tested-inside.ensures i))
+    ∙ sight_then (b l) (q l) (seen l) (λ inside. number_rows r g then row inside 40 g) in
     ap (λ (a : Answer). measured a c.if-a-eq0.elevation) c.hand_back.ensures
     ∙ elim c.if-a-eq0.branch [
-      then-a-eq0 w ↦
-        elevation_accepted (b l) r g answered w.if-a-eq0.true
-        (w.elevation-is ∙ ap (λ (s : Sight). s.level) (sight_found (b l) (q l) (seen l) (then_first _ _ (same_number answered w.if-a-eq0.true))))
-    | else-a-eq0 w ↦ ap (measured _) w.elevation-is ∙ elevation_refused (b l) r g answered w.if-a-eq0.false ]
+      | then-a-eq0 w ↦
+          elevation_accepted (b l) r g answered w.if-a-eq0.true
+          (w.elevation-is ∙ ap (λ (s : Sight). s.level) (sight_found (b l) (q l) (seen l) (then_first _ _ (same_number answered w.if-a-eq0.true))))
+      | else-a-eq0 w ↦ ap (measured _) w.elevation-is ∙ elevation_refused (b l) r g answered w.if-a-eq0.false
+    ]

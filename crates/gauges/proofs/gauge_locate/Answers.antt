@@ -37,12 +37,13 @@ unfolding locate_answer row40
 returns c =
     let l = (goal.at.returns c).After-look_at-look in
     let answered : c.first-a.result ≡ locate_answer (b l) (q l) =
-        c.first-a.ensures
-        ∙ ap (λ (a : Answer). c.look_at-look.result.answer then a) c.tested.ensures
-        ∙ sight_then (b l) (q l) (seen l) (λ inside. row inside 40 0) in
+    c.first-a.ensures
+    ∙ ap (λ (a : Answer). c.look_at-look.result.answer then a) c.tested.ensures
+    ∙ sight_then (b l) (q l) (seen l) (λ inside. row inside 40 0) in
     ap (λ (a : Answer). located a c.if-a-eq0.triangle) c.hand_back.ensures
     ∙ elim c.if-a-eq0.branch [
-      then-a-eq0 w ↦
-        locate_accepted (b l) (q l) answered w.if-a-eq0.true
-        (w.triangle-is ∙ ap (λ (s : Sight). s.triangle) (sight_found (b l) (q l) (seen l) (then_first _ _ (same_number answered w.if-a-eq0.true))))
-    | else-a-eq0 w ↦ ap (located _) w.triangle-is ∙ locate_refused (b l) (q l) answered w.if-a-eq0.false ]
+      | then-a-eq0 w ↦
+          locate_accepted (b l) (q l) answered w.if-a-eq0.true
+          (w.triangle-is ∙ ap (λ (s : Sight). s.triangle) (sight_found (b l) (q l) (seen l) (then_first _ _ (same_number answered w.if-a-eq0.true))))
+      | else-a-eq0 w ↦ ap (located _) w.triangle-is ∙ locate_refused (b l) (q l) answered w.if-a-eq0.false
+    ]

@@ -11,5 +11,6 @@ unfolding of_bits
 returns c =
     ap (λ (a : Answer). peaked a c.if-a-eq0.k) c.hand_back.ensures
     ∙ elim c.if-a-eq0.branch [
-      then-a-eq0 w ↦ peak_accepted _ _ c.number_rows-a.ensures w.if-a-eq0.true (w.k-is ∙ w.mark_at-k.ensures)
-    | else-a-eq0 w ↦ ap (peaked _) w.k-is ∙ peak_refused _ _ c.number_rows-a.ensures w.if-a-eq0.false ]
+      | then-a-eq0 w ↦ peak_accepted _ _ c.number_rows-a.ensures w.if-a-eq0.true (w.k-is ∙ w.mark_at-k.ensures)
+      | else-a-eq0 w ↦ ap (peaked _) w.k-is ∙ peak_refused _ _ c.number_rows-a.ensures w.if-a-eq0.false
+    ]

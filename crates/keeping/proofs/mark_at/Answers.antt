@@ -1,5 +1,4 @@
 use mathlib.Core.Path.{ap, ◌∙◌}
-use borrow.Author.Rules.{rules}
 use Prim.Native.Nat.{ℕ}
 use lib.Ieee.{binary64, of_bits}
 use Rattle.crossing.specs.Crossing.{number_at}

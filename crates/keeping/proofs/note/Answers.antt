@@ -1,5 +1,4 @@
 use mathlib.Core.Path.{◌≡◌, sym, ap, ◌∙◌}
-use borrow.Author.Rules.{rules}
 use Rattle.keeping.specs.declared.Mark.{Mark}
 use Rattle.keeping.specs.Record.{mark_in, keeps}
 use Rattle.keeping.proofs.RecordLaws.{noted_kept, noted_anew}

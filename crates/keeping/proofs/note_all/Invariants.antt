@@ -1,10 +1,8 @@
-use Prim.Native.Nat.{ℕ, ◌-◌, ◌≤◌}
-use mathlib.Core.Path.{◌≡◌, sym, ap, ◌∙◌}
-use native.Mathlib.Omega.{arith}
-use lib.ListN.{length, get_or}
+use Prim.Native.Nat.{◌-◌, ◌≤◌}
+use mathlib.Core.Path.{◌≡◌}
+use lib.ListN.{get_or}
 use lib.Ieee.{nan}
-use Rattle.keeping.specs.Record.{noted, all_noted}
-use Rattle.keeping.proofs.RecordLaws.{noted_none, noted_more, all_length}
+use Rattle.keeping.specs.Record.{all_noted}
 use Rattle.keeping.proofs.note_all.Given as goal
 
 abbrev pub invariant-loop-g : goal.invariant-loop-g

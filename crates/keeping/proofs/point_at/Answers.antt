@@ -1,5 +1,4 @@
 use mathlib.Core.Path.{ap, ◌∙◌}
-use borrow.Author.Rules.{rules}
 use mir.Syntax.{w32}
 use Prim.Native.Nat.{ℕ}
 use Rattle.geometry.proofs.SizeLaws.{kept_as}

@@ -1,20 +1,15 @@
-use Prim.Native.Nat.{ℕ, ◌-◌, ◌≤◌}
+use Prim.Native.Nat.{ℕ}
 use mathlib.Core.Path.{◌≡◌, refl, sym, ap, ◌∙◌}
 use mathlib.Core.List.{List}
 use native.Mathlib.Omega.{arith}
-use borrow.Author.Rules.{rules}
 use borrow.Author.Tests.{le-leb, lt-leb}
 use mathlib.Core.Bool.{Bool, cond}
-use lib.IntN.{ℤ}
 use mir.Syntax.{w32}
 use Rattle.geometry.proofs.SizeLaws.{kept_as}
-use lib.ListN.{length}
 use Rattle.lists.specs.Table.{table}
-use Rattle.lists.specs.Private.{up_to}
 use Rattle.lists.proofs.TableLaws.{up_none, fill_more, fill_all}
-use Rattle.crossing.specs.Crossing.{signed}
 use Rattle.location.specs.declared.seeking.Point.{Point}
-use Rattle.keeping.specs.Record.{Field, east_field, north_field, field_in, count_in, point_in, points_in}
+use Rattle.keeping.specs.Record.{east_field, north_field, count_in, point_in, points_in}
 use Rattle.keeping.proofs.points.Invariants.{each}
 use Rattle.keeping.proofs.points.Goals as goal
 use Rattle.keeping.proofs.points.Goals.{After-loop-g}

@@ -1,4 +1,3 @@
-use borrow.Author.Rules.{rules}
 use lib.Ieee.{of_bits}
 use Rattle.keeping.specs.Record.{added}
 use Rattle.keeping.proofs.put_gauge.Goals as goal

@@ -1,4 +1,3 @@
-use borrow.Author.Rules.{rules}
 use Rattle.keeping.specs.Record.{with_mark}
 use Rattle.keeping.proofs.put_mark.Goals as goal
 

@@ -1,15 +1,7 @@
 use Prim.Native.Nat.{ℕ, ◌-◌, ◌≤◌, ◌<◌}
-use mathlib.Core.Path.{◌≡◌, sym, ap, ◌∙◌}
+use mathlib.Core.Path.{◌≡◌}
 use mathlib.Core.Bool.{true}
-use native.Mathlib.Omega.{arith}
-use borrow.Author.Count.{below_more}
-use borrow.Author.Tests.{le-leb, lt-leb}
-use lib.Dec.{leb}
-use Rattle.rows.specs.Scan.{row, scan}
-use Rattle.location.specs.Survey.{most}
-use Rattle.keeping.specs.Record.{row43}
-use Rattle.rows.proofs.ScanLaws.{row_hit, row_none}
-use Rattle.keeping.proofs.RecordLaws.{seen_fine, of_another_length, of_too_many, row_by_row}
+use Rattle.keeping.proofs.RecordLaws.{seen_fine}
 use Rattle.keeping.proofs.record_rows.Given as goal
 
 abbrev pub invariant-loop-g : goal.invariant-loop-g

@@ -3,7 +3,6 @@ use lib.ListN.{get_or}
 use lib.Ieee.{nan}
 use mathlib.Core.Path.{◌≡◌, ap, ◌∙◌}
 use native.Mathlib.Omega.{arith}
-use borrow.Author.Rules.{rules}
 use Rattle.rows.specs.declared.Answer.{Answer}
 use Rattle.rows.specs.Scan.{◌then◌}
 use Rattle.rows.proofs.ScanLaws.{same_number, then_first, then_rest, then_assoc}

@@ -1,9 +1,9 @@
 use Prim.Native.Nat.{◌≤◌}
-use mathlib.Core.Path.{◌≡◌, refl, sym, ◌∙◌}
+use mathlib.Core.Path.{◌≡◌, sym, ◌∙◌}
 use native.Mathlib.Numerals.{add-one}
 use native.Mathlib.Omega.{arith}
 use borrow.Author.Rules.{rules}
-use lib.ListN.{length, take, length-set}
+use lib.ListN.{length, take}
 use lib.Seq.{paste-zero, paste-suc, take_all, length-take-le}
 use Rattle.lines.specs.Building.{longest, written, laid}
 use Rattle.lines.proofs.BuildLaws.{put_fits, put_not}
@@ -27,17 +27,15 @@ long : (c : Joined-len-lt-LONGEST) → length (take c.if-len-lt-LONGEST.n c.args
 long c = length-take-le _ _ (omega (arith, some c))
 
 pub loop-k-preserved : goal.loop-k-preserved
-loop-k-preserved c = (
-  omega arith,
-  simp length-set c.loop-k.invariant.1,
-  rw (c.loop-k.invariant.2, add-one) (paste-suc c.args.text.now c.args.at c.args.line.bytes c.loop-k.k 0 (omega arith) (omega (arith, some (goal.at.loop-k-preserved c).Joined-len-lt-LONGEST))),
-)
+loop-k-preserved c =
+    rw (c.loop-k.invariant, add-one)
+    (paste-suc c.args.text.now c.args.at c.args.line.bytes c.loop-k.k 0 (omega arith) (omega (arith, some (goal.at.loop-k-preserved c).Joined-len-lt-LONGEST)))
 
 pub returns : goal.returns
 unfolding laid
 returns c =
     let e : c.loop-k.k ≡ c.if-len-lt-LONGEST.n = omega arith in
-    rw (c.loop-k.invariant.2, e, put_fits c.args.text.now c.args.at c.args.line (some (goal.at.returns c).Joined-len-lt-LONGEST).0 (rw (long (goal.at.returns c).Joined-len-lt-LONGEST) (omega arith)), long (goal.at.returns c).Joined-len-lt-LONGEST)
+    rw (c.loop-k.invariant, e, put_fits c.args.text.now c.args.at c.args.line (some (goal.at.returns c).Joined-len-lt-LONGEST).0 (rw (long (goal.at.returns c).Joined-len-lt-LONGEST) (omega arith)), long (goal.at.returns c).Joined-len-lt-LONGEST)
 
 pub returns-then-text-n : goal.returns-then-text-n
 returns-then-text-n c = sym (put_not _ _ _ (some (goal.at.returns-then-text-n c).Joined-len-lt-LONGEST).0 (rw (long (goal.at.returns-then-text-n c).Joined-len-lt-LONGEST) (omega arith)))
@@ -46,10 +44,4 @@ pub returns-then-text-n-2 : goal.returns-then-text-n-2
 returns-then-text-n-2 c = sym (put_not _ _ _ (some (goal.at.returns-then-text-n-2 c).Joined-len-lt-LONGEST).0 (rw (long (goal.at.returns-then-text-n-2 c).Joined-len-lt-LONGEST) (omega arith)))
 
 pub loop-k-init : goal.loop-k-init
-loop-k-init c = (omega arith, refl, let a = c.args in paste-zero a.text.now a.at a.line.bytes)
-
-pub bounds-bytes-k : goal.bounds-bytes-k
-bounds-bytes-k c = omega (arith, (some (goal.at.bounds-bytes-k c).Joined-len-lt-LONGEST).2)
-
-pub shape_of-text : goal.shape_of-text
-shape_of-text c = c.loop-k.invariant.1
+loop-k-init c = let a = c.args in paste-zero a.text.now a.at a.line.bytes

@@ -1,12 +1,11 @@
-use Rattle.std.proofs.Common.{◌≡◌, ℕ, ◌-◌, ◌^◌, ◌<◌, ◌≤◌, cond, ltb, List, length, set, ℤ, ap, ◌∙◌, ⊎_elim, arith, to_z-of_z, w32, to_z, of_z, rules, le-ltb, lt-ltb}
+use Rattle.std.proofs.Common.{◌≡◌, ℕ, ◌^◌, ◌<◌, List, length, set, ℤ, ap, ◌∙◌, arith, to_z-of_z, w32, to_z, of_z, rules, le-ltb, lt-ltb}
 use lib.Signed.{mag}
 use lib.Ieee.{Float, of_bits}
 use Rattle.rows.specs.Numbers.{plus0}
 use Rattle.lists.specs.Table.{table}
 use Rattle.lists.specs.Runs.{in_run}
-use Rattle.location.specs.declared.Points.{Points}
 use Rattle.location.specs.declared.seeking.Sighting.{Sighting}
-use Rattle.location.specs.Location.{triangle_of, level_of, sighted}
+use Rattle.location.specs.Location.{sighted}
 use Rattle.location.specs.Survey.{point_of, seen}
 use Rattle.location.proofs.FillLaws.{filled, fill_none, fill_put, fill_skip, fill_all}
 use Rattle.location.proofs.at_points.Invariants.{triangle_at, level_at}
@@ -36,26 +35,27 @@ loop-g-preserved c =
     let g = c.loop-g.g in
     let r = c.loop-g.invariant in
     elim c.if-g-ps.branch [
-      then-g-ps w ↦
-        let p = point_of a.ps g in
-        let x : mag p.x < 2 ^ 31 = omega arith in
-        let y : mag p.y < 2 ^ 31 = omega arith in
-        let e =
-            w.sight-seen.ensures
-            ∙ (λ i. sighted a.x.now a.y.now a.tri.now (record { x = back p.x x i; y = back p.y y i }) (in_run (length a.x.now) 1 a.state.now)) in
-        let q = lt-ltb g a.ps.count w.if-g-ps.true in (
-          omega arith,
-          w.triangle-is ∙ ap (λ (t : List ℕ). set t g w.sight-seen.result.triangle) r.1
-          ∙ fill_put 64 (triangle_at a.ps a.x.now a.y.now a.tri.now a.state.now) 0 g (ap (λ (s : Sighting). s.triangle) e ∙ rw q),
-          w.level-is ∙ ap (λ (t : List Float). set t g w.sight-seen.result.level) r.2
-          ∙ fill_put 64 (level_at a.ps a.x.now a.y.now a.tri.now a.state.now) plus0 g (ap (λ (s : Sighting). s.level) e ∙ rw q),
-        )
-    | else-g-ps w ↦
-        let q = le-ltb g a.ps.count w.if-g-ps.false in (
-          omega arith,
-          w.triangle-is ∙ r.1 ∙ fill_skip 64 (triangle_at a.ps a.x.now a.y.now a.tri.now a.state.now) 0 g (rw q),
-          w.level-is ∙ r.2 ∙ fill_skip 64 (level_at a.ps a.x.now a.y.now a.tri.now a.state.now) plus0 g (rw q),
-        ) ]
+      | then-g-ps w ↦
+          let p = point_of a.ps g in
+          let x : mag p.x < 2 ^ 31 = omega arith in
+          let y : mag p.y < 2 ^ 31 = omega arith in
+          let e =
+          w.sight-seen.ensures
+          ∙ (λ i. sighted a.x.now a.y.now a.tri.now (record { x = back p.x x i; y = back p.y y i }) (in_run (length a.x.now) 1 a.state.now)) in
+          let q = lt-ltb g a.ps.count w.if-g-ps.true in (
+            omega arith,
+            w.triangle-is ∙ ap (λ (t : List ℕ). set t g w.sight-seen.result.triangle) r.1
+                ∙ fill_put 64 (triangle_at a.ps a.x.now a.y.now a.tri.now a.state.now) 0 g (ap (λ (s : Sighting). s.triangle) e ∙ rw q),
+            w.level-is ∙ ap (λ (t : List Float). set t g w.sight-seen.result.level) r.2
+                ∙ fill_put 64 (level_at a.ps a.x.now a.y.now a.tri.now a.state.now) plus0 g (ap (λ (s : Sighting). s.level) e ∙ rw q),
+          )
+      | else-g-ps w ↦
+          let q = le-ltb g a.ps.count w.if-g-ps.false in (
+            omega arith,
+            w.triangle-is ∙ r.1 ∙ fill_skip 64 (triangle_at a.ps a.x.now a.y.now a.tri.now a.state.now) 0 g (rw q),
+            w.level-is ∙ r.2 ∙ fill_skip 64 (level_at a.ps a.x.now a.y.now a.tri.now a.state.now) plus0 g (rw q),
+          )
+    ]
 
 pub returns : goal.returns
 unfolding seen

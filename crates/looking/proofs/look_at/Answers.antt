@@ -1,7 +1,6 @@
 use Prim.Native.Nat.{◌/◌, ◌≤◌}
 use mathlib.Core.Path.{◌≡◌, refl, sym, ap, ◌∙◌}
 use native.Mathlib.Omega.{arith}
-use borrow.Author.Rules.{rules}
 use lib.Dec.{ltb}
 use lib.ListN.{length, get_or}
 use lib.Ieee.{nan, of_bits}
@@ -9,8 +8,7 @@ use mir.Syntax.{w32}
 use mir.Val.{to_z, of_z}
 use Rattle.rows.proofs.ScanLaws.{same_number}
 use Rattle.geometry.proofs.SizeLaws.{kept_as}
-use Rattle.location.specs.declared.seeking.Point.{Point}
-use Rattle.looking.specs.Lent.{Lent, lent, lent_rows}
+use Rattle.looking.specs.Lent.{Lent, lent}
 use Rattle.looking.specs.Looking.{is_on, triangle_at, level_at}
 use Rattle.looking.proofs.LookLaws.{elements_length, look_answer, triangle_seen, level_seen, sight_refused, sight_accepted, few_triangles}
 use Rattle.looking.proofs.look_at.Goals as goal

@@ -4,7 +4,6 @@ use mathlib.Core.List.{◌++◌}
 use lib.ListN.{drop}
 use Rattle.rows.specs.declared.Answer.{Answer}
 use native.Mathlib.Omega.{arith}
-use borrow.Author.Rules.{rules}
 use borrow.Author.Tests.{leb-true}
 use lib.Ieee.{of_bits}
 use Rattle.rows.specs.Scan.{accepted}

@@ -1,4 +1,4 @@
-use Rattle.std.proofs.Common.{◌≡◌, ◌<◌, length, sym, refl, ◌∙◌, add-one, arith, length-set, take_all, take-suc, take-suc-set}
+use Rattle.std.proofs.Common.{◌≡◌, ◌<◌, length, sym, ◌∙◌, add-one, arith, take_all, take-suc, take-suc-set}
 use Rattle.frames.specs.Bytes.{bytes}
 use Rattle.frames.proofs.ByteLaws.{bytes_length}
 use Rattle.frames.proofs.digits.frame.Goals as goal
@@ -9,16 +9,10 @@ loop-k-preserved c =
     let k = c.loop-k.k in
     let l : k < length c.loop-k.out = omega arith in
     let m : k < length b = rw bytes_length (omega arith) in
-    (omega arith, simp length-set c.loop-k.invariant.1, rw (add-one, take-suc-set c.loop-k.out k c.byte_at.result l, take-suc b k 0 m, c.loop-k.invariant.2, c.byte_at.ensures.0))
+    rw (add-one, take-suc-set c.loop-k.out k c.byte_at.result l, take-suc b k 0 m, c.loop-k.invariant, c.byte_at.ensures.0)
 
 pub returns : goal.returns
 returns c =
     let n = length c.args.out.now in
     let last : c.loop-k.k ≡ n = omega arith in
-    sym (take_all n c.loop-k.out (omega arith)) ∙ (rw last at c.loop-k.invariant.2)
-
-pub loop-k-init : goal.loop-k-init
-loop-k-init c = (omega arith, refl, refl)
-
-pub shape_of-out : goal.shape_of-out
-shape_of-out c = c.loop-k.invariant.1
+    sym (take_all n c.loop-k.out (omega arith)) ∙ (rw last at c.loop-k.invariant)

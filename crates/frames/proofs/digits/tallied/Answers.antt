@@ -8,12 +8,12 @@ use Rattle.frames.proofs.digits.tallied.Goals.{Joined-side-eq0, then-side-eq0, e
 
 pub loop-c-init : goal.loop-c-init
 unfolding rest rest_digits
-loop-c-init c = (omega arith, refl, omega arith, ap (λ x. x % 256) (omega arith), refl)
+loop-c-init c = (refl, ap (λ x. x % 256) (omega arith), refl)
 
 -- what the character adds
 added : (j : Joined-side-eq0) → j.if-side-eq0.part ≡ part (j.loop-c.c % 2) (get_or j.args.text.now j.loop-c.c 0)
 added j =
-    let side = j.loop-c.invariant.1 in
+    let side = j.loop-c.invariant.0 in
     elim j.if-side-eq0.branch [
       | then-side-eq0 t ↦ t.part-is ∙ rw j.worth-digit.ensures (sym (part_high (j.loop-c.c % 2) _ (omega (arith, side, t.if-side-eq0.true))))
       | else-side-eq0 t ↦ t.part-is ∙ rw j.worth-digit.ensures (sym (part_low (j.loop-c.c % 2) _ (omega (arith, side, t.if-side-eq0.false))))
@@ -25,10 +25,8 @@ loop-c-preserved c =
     let k = c.loop-c.c in
     let n : k < length s / 2 * 2 = omega arith in (
       omega arith,
-      omega (arith, c.wrapping_add_u8-side.ensures, c.loop-c.invariant.1),
-      omega (arith, c.wrapping_add_u8-sum.ensures),
-      rw (c.wrapping_add_u8-sum.ensures.value, sum_adds, added (goal.at.loop-c-preserved c).Joined-side-eq0, ← sum_next s k n) c.loop-c.invariant.3,
-      rw (and_assoc, c.worth-digit.ensures, ← digits_next s k n) c.loop-c.invariant.4,
+      rw (c.wrapping_add_u8-sum.ensures.value, sum_adds, added (goal.at.loop-c-preserved c).Joined-side-eq0, ← sum_next s k n) c.loop-c.invariant.1,
+      rw (and_assoc, c.worth-digit.ensures, ← digits_next s k n) c.loop-c.invariant.2,
     )
 
 pub returns : goal.returns
@@ -38,6 +36,6 @@ returns c =
     let k = c.loop-c.c in
     let even : k % 2 ≡ 0 = omega arith in
     let last : length (drop k s) ≤ 1 = rw length-drop (omega arith) in
-    let e : c.loop-c.sum ≡ sum (bytes s) % 256 = omega (arith, rw (even, sum_none (drop k s) last) at c.loop-c.invariant.3, c.loop-c.invariant.2) in
-    let d : c.loop-c.right ≡ all_digits s = sym (and-true _) ∙ (rw (even, digits_end (drop k s) last) at c.loop-c.invariant.4) in
+    let e : c.loop-c.sum ≡ sum (bytes s) % 256 = omega (arith, rw (even, sum_none (drop k s) last) at c.loop-c.invariant.1) in
+    let d : c.loop-c.right ≡ all_digits s = sym (and-true _) ∙ (rw (even, digits_end (drop k s) last) at c.loop-c.invariant.2) in
     rw (e, d)

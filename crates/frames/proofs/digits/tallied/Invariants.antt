@@ -1,11 +1,8 @@
-use Rattle.std.proofs.Common.{◌≡◌, ◌+◌, ◌-◌, ◌*◌, ◌%◌, ◌<◌, ◌≤◌, ◌&&◌, drop}
+use Rattle.std.proofs.Common.{◌≡◌, ◌+◌, ◌*◌, ◌%◌, ◌&&◌, drop}
 use Rattle.frames.specs.Bytes.{bytes, all_digits, sum}
 use Rattle.frames.proofs.TallyLaws.{rest, rest_digits}
 use Rattle.frames.proofs.digits.tallied.Given as goal
 
 abbrev pub invariant-loop-c : goal.invariant-loop-c
-invariant-loop-c l = (l.c ≤ l.n) × (l.side ≡ l.c % 2 * 128) × (l.sum < 256) × ((l.sum + rest (l.c % 2) (drop l.c l.text)) % 256 ≡ sum (bytes l.text) % 256)
+invariant-loop-c l = (l.side ≡ l.c % 2 * 128) × ((l.sum + rest (l.c % 2) (drop l.c l.text)) % 256 ≡ sum (bytes l.text) % 256)
     × ((l.right && rest_digits (l.c % 2) (drop l.c l.text)) ≡ all_digits l.text)
-
-abbrev pub decreases-loop-c : goal.decreases-loop-c
-decreases-loop-c l = l.n - l.c

@@ -1,5 +1,4 @@
-use Rattle.std.proofs.Common.{◌≡◌, ◌-◌, ◌≤◌, cond, ◌&&◌, leb, ◌∙◌, arith, leb-true}
-use Rattle.rows.proofs.ScanLaws.{both_left}
+use Rattle.std.proofs.Common.{◌≡◌, ◌-◌, cond, ◌&&◌, leb, ◌∙◌}
 use Rattle.frames.specs.Bytes.{worth}
 use Rattle.frames.proofs.digits.worth.Goals as goal
 use Rattle.frames.proofs.digits.worth.Goals.{Joined-d-2, then-d, else-d, then-d-2, else-d-2}
@@ -10,15 +9,6 @@ letter c =
     elim c.if-d.branch [ then-d w ↦ w.lower-is ∙ rw w.if-d.true | else-d w ↦ w.lower-is ∙ rw w.if-d.false ]
     in
     elim c.if-d-2.branch [ then-d-2 w ↦ w.letter-is ∙ rw w.if-d-2.true | else-d-2 w ↦ w.letter-is ∙ rw w.if-d-2.false low ]
-
-pub overflow_sub-lower : goal.overflow_sub-lower
-overflow_sub-lower c = let h : 97 ≤ c.args.d = leb-true _ _ (both_left _ _ c.if-d.true) in omega arith
-
-pub overflow_sub-letter : goal.overflow_sub-letter
-overflow_sub-letter c = let h : 65 ≤ c.args.d = leb-true _ _ (both_left _ _ c.if-d-2.true) in omega arith
-
-pub overflow_sub-result : goal.overflow_sub-result
-overflow_sub-result c = leb-true _ _ (both_left _ _ c.if-d-3.true)
 
 pub returns-then-d-3 : goal.returns-then-d-3
 unfolding worth

@@ -50,14 +50,5 @@ loop-k-init c = (omega arith, omega arith, refl)
 pub overflow_mul-v : goal.overflow_mul-v
 overflow_mul-v c = omega (arith, small (goal.at.overflow_mul-v c).In-loop-k)
 
-pub overflow_add-at : goal.overflow_add-at
-overflow_add-at c = omega (arith, within (goal.at.overflow_add-at c).Joined-width-rest)
-
-pub byte_at-requires : goal.byte_at-requires
-byte_at-requires c = omega (arith, within (goal.at.byte_at-requires c).Joined-width-rest)
-
 pub overflow_add-v : goal.overflow_add-v
 overflow_add-v c = omega (arith, small (goal.at.overflow_add-v c).In-loop-k)
-
-pub overflow_add-k : goal.overflow_add-k
-overflow_add-k c = omega (arith, within (goal.at.overflow_add-k c).Joined-width-rest)

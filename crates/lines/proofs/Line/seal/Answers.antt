@@ -20,9 +20,6 @@ pub returns-then-at-gt-SEALABLE : goal.returns-then-at-gt-SEALABLE
 unfolding sealed digits
 returns-then-at-gt-SEALABLE c = sym (appended_full _ _ (omega arith))
 
-pub slice_bounds-tallied-end : goal.slice_bounds-tallied-end
-slice_bounds-tallied-end c = let z : length c.args.self.bytes ≡ longest = search rules in omega arith
-
 pub overflow_sub-tally : goal.overflow_sub-tally
 unfolding tallied
 overflow_sub-tally c = rw c.tallied-tally.ensures (omega arith)

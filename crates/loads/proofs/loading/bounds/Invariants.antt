@@ -1,9 +1,5 @@
 use Prim.Native.Nat.{ℕ, ◌-◌, ◌≤◌, ◌<◌}
-use mathlib.Core.Path.{◌≡◌, sym, ◌∙◌}
-use native.Mathlib.Omega.{arith}
-use borrow.Author.Count.{below_none, below_more}
-use borrow.Author.Rules.{rules}
-use Rattle.rows.proofs.ScanLaws.{scan_none, scan_hit, same_number, other_number}
+use mathlib.Core.Path.{◌≡◌}
 use Rattle.loads.specs.Load.{row10_in}
 use Rattle.editions.specs.Editions.{lines_of}
 use Rattle.loads.proofs.loading.bounds.Given as goal

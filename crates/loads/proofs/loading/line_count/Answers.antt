@@ -1,4 +1,3 @@
-use borrow.Author.Rules.{rules}
 use Rattle.loads.proofs.loading.line_count.Goals as goal
 
 pub returns-in-One : goal.returns-in-One

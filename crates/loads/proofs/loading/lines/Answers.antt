@@ -1,11 +1,10 @@
-use Prim.Native.Nat.{ℕ, ◌-◌, ◌≤◌, ◌<◌}
-use mathlib.Core.Path.{◌≡◌, sym, ◌∙◌}
+use Prim.Native.Nat.{◌<◌}
+use mathlib.Core.Path.{sym, ◌∙◌}
 use native.Mathlib.Omega.{arith}
 use borrow.Author.Count.{below_none, below_more}
 use borrow.Author.Rules.{rules}
 use Rattle.rows.proofs.ScanLaws.{scan_none, scan_hit, same_number, other_number}
 use Rattle.editions.specs.Lines.{line_count}
-use Rattle.loads.specs.Load.{line_rows}
 use Rattle.editions.specs.Editions.{lines_of}
 use Rattle.loads.proofs.loading.lines.Goals as goal
 use Rattle.loads.proofs.loading.lines.Goals.{In-loop-j}

@@ -1,4 +1,3 @@
-use borrow.Author.Rules.{rules}
 use Rattle.frames.specs.Reading.{values}
 use Rattle.loads.proofs.EditionLaws.{node_fields_lem}
 use Rattle.loads.proofs.loading.node_at.Goals as goal

@@ -1,5 +1,4 @@
 use mathlib.Core.Path.{sym, ap, ◌∙◌}
-use borrow.Author.Rules.{rules}
 use Rattle.frames.specs.Texts.{start_of}
 use Rattle.editions.specs.Lines.{edition1, edition2, node_line}
 use Rattle.editions.specs.declared.Edition.{Edition}

@@ -1,4 +1,3 @@
-use borrow.Author.Rules.{rules}
 use Rattle.loads.proofs.loading.start.Goals as goal
 
 pub start_in_one-requires : goal.start_in_one-requires

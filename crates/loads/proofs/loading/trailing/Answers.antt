@@ -1,4 +1,3 @@
-use borrow.Author.Rules.{rules}
 use Rattle.loads.specs.Load.{trailing_row}
 use Rattle.loads.proofs.loading.trailing.Goals as goal
 

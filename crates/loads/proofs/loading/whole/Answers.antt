@@ -1,5 +1,4 @@
 use mathlib.Core.Path.{sym}
-use borrow.Author.Rules.{rules}
 use Rattle.saves.proofs.LineLaws.{save_long}
 use Rattle.loads.proofs.EditionLaws.{save1_long}
 use Rattle.loads.proofs.loading.whole.Goals as goal

@@ -1,4 +1,4 @@
-use Rattle.std.proofs.Common.{◌≡◌, ◌^◌, ◌<◌, ◌&&◌, ℤ, pos, refl, ap, ◌∙◌, w64, to_z, of_z, rules}
+use Rattle.std.proofs.Common.{◌≡◌, ◌^◌, ◌<◌, ◌&&◌, ℤ, pos, refl, ap, ◌∙◌, w64, to_z, of_z}
 use lib.Signed.{mag, le_z}
 use Rattle.geometry.proofs.SizeLaws.{kept}
 use Rattle.location.specs.Location.{none_negative}

@@ -1,4 +1,4 @@
-use Rattle.std.proofs.Common.{◌≡◌, ◌^◌, ◌<◌, ℤ, refl, ap, ◌∙◌, w64, to_z, of_z, rules}
+use Rattle.std.proofs.Common.{◌≡◌, ◌^◌, ◌<◌, ℤ, refl, ap, ◌∙◌, w64, to_z, of_z}
 use lib.Signed.{mag}
 use lib.Ieee.{Float, binary64, of_int}
 use Rattle.geometry.proofs.SizeLaws.{kept}

@@ -1,5 +1,5 @@
-use Rattle.std.proofs.Common.{◌≡◌, ℕ, ◌-◌, ◌<◌, ◌≤◌, false, sym, ◌∙◌, arith, rules, below_none, below_more}
-use Rattle.location.specs.Location.{contains, triangle_of}
+use Rattle.std.proofs.Common.{sym, ◌∙◌, arith, rules, below_none, below_more}
+use Rattle.location.specs.Location.{triangle_of}
 use Rattle.location.proofs.LowestLaws.{lowest_hit, lowest_none}
 use Rattle.location.proofs.seeking.locate.Goals as goal
 

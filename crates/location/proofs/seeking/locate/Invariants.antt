@@ -1,6 +1,5 @@
-use Rattle.std.proofs.Common.{◌≡◌, ℕ, ◌-◌, ◌<◌, ◌≤◌, false, sym, ◌∙◌, arith, rules, below_none, below_more}
-use Rattle.location.specs.Location.{contains, triangle_of}
-use Rattle.location.proofs.LowestLaws.{lowest_hit, lowest_none}
+use Rattle.std.proofs.Common.{◌≡◌, ℕ, ◌-◌, ◌<◌, ◌≤◌, false}
+use Rattle.location.specs.Location.{contains}
 use Rattle.location.proofs.seeking.locate.Given as goal
 
 -- no triangle that was passed contains the point

@@ -1,4 +1,4 @@
-use Rattle.std.proofs.Common.{◌≡◌, ℕ, length, ap, ◌∙◌, rules}
+use Rattle.std.proofs.Common.{◌≡◌, length, ap, ◌∙◌}
 use lib.Ieee.{Float, of_bits}
 use Rattle.lists.specs.Gather.{Three}
 use Rattle.lists.specs.Private.{Below}

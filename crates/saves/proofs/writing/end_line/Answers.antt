@@ -1,7 +1,6 @@
 use Prim.Native.Nat.{◌+◌}
 use mathlib.Core.List.{[], ◌∷◌}
 use lib.Dec.{lit<}
-use borrow.Author.Rules.{rules}
 use Rattle.frames.specs.Frames.{line}
 use Rattle.lines.specs.Building.{with_fields}
 use Rattle.lines.proofs.WholeLaws.{built}

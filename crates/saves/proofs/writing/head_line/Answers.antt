@@ -1,6 +1,5 @@
 use mathlib.Core.List.{[], ◌∷◌}
 use lib.Dec.{lit<}
-use borrow.Author.Rules.{rules}
 use Rattle.frames.specs.Frames.{line}
 use Rattle.lines.specs.Building.{with_fields}
 use Rattle.lines.proofs.WholeLaws.{built}

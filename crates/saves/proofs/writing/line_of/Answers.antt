@@ -1,6 +1,5 @@
 use mathlib.Core.Path.{refl, ap, ◌∙◌}
 use native.Mathlib.Omega.{arith}
-use borrow.Author.Rules.{rules}
 use Rattle.frames.specs.Frames.{text}
 use Rattle.lines.specs.Building.{holding}
 use Rattle.saves.specs.Save.{Saved}

@@ -1,13 +1,11 @@
-use Prim.Native.Nat.{◌-◌, ◌≤◌}
 use mathlib.Core.Path.{◌≡◌, refl, ap, ◌∙◌}
 use native.Mathlib.Omega.{arith}
-use borrow.Author.Rules.{rules}
 use lib.ListN.{length}
 use Rattle.frames.specs.Texts.{lines_to}
 use Rattle.editions.specs.Lines.{edition2, line_count}
 use Rattle.saves.specs.Save.{Saved}
 use Rattle.saves.proofs.LineLaws.{save_long}
-use Rattle.saves.proofs.WriteLaws.{lines_start, reached, so_far, so_far_long, put_next}
+use Rattle.saves.proofs.WriteLaws.{lines_start, so_far_long, put_next}
 use Rattle.saves.proofs.writing.write.Goals as goal
 use Rattle.saves.proofs.writing.write.Goals.{Start}
 
