@@ -1,3 +1,4 @@
+use borrow.Author.Rules.{rules}
 use mathlib.Core.Path.{◌≡◌, ap, ◌∙◌}
 use mathlib.Core.Bool.{Bool}
 use Prim.Native.Nat.{ℕ, ◌*◌}
@@ -8,7 +9,7 @@ use Rattle.lists.specs.Runs.{is_runs}
 use Rattle.quantities.specs.declared.Parameters.{Parameters}
 use Rattle.rows.specs.declared.Answer.{Answer}
 use Rattle.rows.specs.Scan.{row}
-use Rattle.rows.proofs.ScanLaws.{same_number, stops, goes}
+use Rattle.rows.proofs.ScanLaws.{stops, goes}
 use Rattle.mesh.specs.Lent.{Mesh, mesh, N, E}
 use Rattle.nodes.specs.Rows.{mesh_rows}
 use Rattle.mesh.specs.Private.{Shaped}
@@ -48,7 +49,7 @@ module _ (m : Mesh) (p : Parameters) (state : List Float) where
 
 passed : (c : Else-lent-ne0) → let a = c.args in let m = mesh a.x.now a.y.now a.tri.now a.h.now a.kind.now in
     (mesh_rows (row1_state m a.state.now) m a.p).number ≡ 0
-passed c = same_number (asked _ _ _ c.is_runs.ensures c.tested-long.ensures c.mesh_rows-lent.ensures) c.if-lent-ne0.false
+passed c = cc (c.is_runs.ensures, c.tested-long.ensures)
 
 its : (c : After-text_rows-answer) → let a = c.args in let m = mesh a.x.now a.y.now a.tri.now a.h.now a.kind.now in
     (mesh_rows (row1_state m a.state.now) m a.p).number ≡ 0 → c.text_rows-answer.result ≡ load_answer m a.p a.text.now a.state.now
@@ -63,8 +64,7 @@ fill-requires c =
 pub returns-then-lent-ne0 : goal.returns-then-lent-ne0
 unfolding load_answer
 returns-then-lent-ne0 c =
-    let e = asked _ _ _ c.is_runs.ensures c.tested-long.ensures c.mesh_rows-lent.ensures in
-    load_refused _ _ _ _ _ (stops _ e c.if-lent-ne0.true) c.if-lent-ne0.true
+    load_refused _ _ _ _ _ (stops _ (asked _ _ _ c.is_runs.ensures c.tested-long.ensures (search rules)) c.if-lent-ne0.true) c.if-lent-ne0.true
 
 pub returns : goal.returns
 returns c =
