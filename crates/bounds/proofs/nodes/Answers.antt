@@ -14,15 +14,12 @@ loop-i-preserved c =
     let a = c.args in
     let test : ℕ → Bool = λ i. in_bounds (node_of a.n a.h.now a.state.now i) in
     let asked = c.in_bounds-all.ensures ∙ ap in_bounds c.node_of.ensures in
-    (omega arith, all_more _ _ c.loop-i.invariant.1 (asked ∙ row_accepts test 9 (λ i. i) _))
+    all_more _ _ c.loop-i.invariant (asked ∙ row_accepts test 9 (λ i. i) _)
 
 pub returns-then-all : goal.returns-then-all
 returns-then-all c =
     let end : c.loop-i.i ≡ c.args.n = omega arith in
-    c.accept.ensures ∙ all_accept _ _ c.loop-i.invariant.1 c.if-all.true ∙ ap (scan _) end
+    c.accept.ensures ∙ all_accept _ _ c.loop-i.invariant c.if-all.true ∙ ap (scan _) end
 
 pub loop-i-init : goal.loop-i-init
-loop-i-init c = (omega arith, all_none _)
-
-pub returns-else-all : goal.returns-else-all
-returns-else-all c = c.refused_node.ensures
+loop-i-init c = all_none _

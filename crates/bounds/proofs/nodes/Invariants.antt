@@ -1,4 +1,3 @@
-use Prim.Native.Nat.{◌-◌, ◌≤◌}
 use mathlib.Core.Path.{◌≡◌}
 use lib.Dec.{eqb}
 use Rattle.rows.specs.Scan.{scan}
@@ -6,7 +5,4 @@ use Rattle.bounds.specs.State.{row10}
 use Rattle.bounds.proofs.nodes.Given as goal
 
 abbrev pub invariant-loop-i : goal.invariant-loop-i
-invariant-loop-i l = (l.i ≤ l.n) × (l.all ≡ eqb (scan (row10 l.n l.h l.state) l.i).number 0)
-
-abbrev pub decreases-loop-i : goal.decreases-loop-i
-decreases-loop-i l = l.n - l.i
+invariant-loop-i l = l.all ≡ eqb (scan (row10 l.n l.h l.state) l.i).number 0

@@ -4,7 +4,6 @@ use mathlib.Core.Bool.{Bool}
 use mathlib.Core.List.{List}
 use native.Mathlib.Omega.{arith}
 use borrow.Author.Count.{below_none, below_more}
-use borrow.Author.Rules.{rules}
 use lib.Ieee.{Float}
 use Rattle.rows.proofs.ScanLaws.{row_hit, row_none}
 use Rattle.limits.specs.Limits.{in_bounds}
@@ -21,16 +20,16 @@ asked b = sym (b.in_bounds.ensures ∙ ap in_bounds b.node_of.ensures)
 pub returns-then-not-in_bounds : goal.returns-then-not-in_bounds
 unfolding row10
 returns-then-not-in_bounds c =
-    c.refuse.ensures ∙ row_hit (test c.args.n c.args.h.now c.args.state.now) 9 (λ i. i) c.loop-i-test.true c.loop-i.invariant.1 (asked (goal.at.returns-then-not-in_bounds c).After-in_bounds ∙ c.if-not-in_bounds.true)
+    c.refuse.ensures ∙ row_hit (test c.args.n c.args.h.now c.args.state.now) 9 (λ i. i) c.loop-i-test.true c.loop-i.invariant (asked (goal.at.returns-then-not-in_bounds c).After-in_bounds ∙ c.if-not-in_bounds.true)
 
 pub loop-i-preserved : goal.loop-i-preserved
 loop-i-preserved c =
-    (search rules, below_more _ _ c.loop-i.invariant.1 (asked (goal.at.loop-i-preserved c).After-in_bounds ∙ c.if-not-in_bounds.false))
+    below_more _ _ c.loop-i.invariant (asked (goal.at.loop-i-preserved c).After-in_bounds ∙ c.if-not-in_bounds.false)
 
 pub returns : goal.returns
 unfolding row10
 returns c =
-    c.accept.ensures ∙ row_none (test c.args.n c.args.h.now c.args.state.now) 9 (λ i. i) (λ k h. c.loop-i.invariant.1 k (omega arith))
+    c.accept.ensures ∙ row_none (test c.args.n c.args.h.now c.args.state.now) 9 (λ i. i) (λ k h. c.loop-i.invariant k (omega arith))
 
 pub loop-i-init : goal.loop-i-init
-loop-i-init c = (search rules, below_none _)
+loop-i-init c = below_none _

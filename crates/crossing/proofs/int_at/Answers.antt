@@ -5,6 +5,3 @@ use Rattle.crossing.proofs.int_at.Goals as goal
 
 pub returns : goal.returns
 returns c = let n = c.number_at.ensures in signed_kept n.1 c.signed_of.ensures ∙ ap signed n.0
-
-pub signed_of-requires : goal.signed_of-requires
-signed_of-requires c = c.number_at.ensures.1

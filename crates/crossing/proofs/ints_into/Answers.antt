@@ -1,34 +1,20 @@
 use mathlib.Core.Path.{◌≡◌, sym, ap, ◌∙◌}
 use native.Mathlib.Omega.{arith}
-use lib.ListN.{length}
-use Rattle.lists.proofs.TableLaws.{up_none, fill_more, fill_length}
+use Rattle.lists.proofs.TableLaws.{up_none, fill_more}
 use Rattle.crossing.specs.Crossing.{signed}
 use Rattle.crossing.proofs.CrossLaws.{signed_kept, filled_whole}
 use Rattle.crossing.proofs.ints_into.Goals as goal
-use Rattle.crossing.proofs.ints_into.Goals.{At-loop-i}
-
-long : (c : At-loop-i) → length c.loop-i.to ≡ length c.args.to.now
-long c = fill_length _ _ _ c.loop-i.invariant.1 (omega arith)
 
 pub loop-i-preserved : goal.loop-i-preserved
 loop-i-preserved c =
     let t = c.taken.ensures in
-    (omega arith, fill_more _ _ _ c.loop-i.invariant.1 (omega arith) (signed_kept t.1 c.signed_of.ensures ∙ ap signed t.0))
+    fill_more _ _ _ c.loop-i.invariant (omega arith) (signed_kept t.1 c.signed_of.ensures ∙ ap signed t.0)
 
 pub returns : goal.returns
 returns c =
     let k = c.fewer-n in
     let done : c.loop-i.i ≡ k.result = omega arith in
-    c.loop-i.invariant.1 ∙ rw done (filled_whole 4 signed _ _ _ (omega arith) (omega arith) k.ensures.2)
+    c.loop-i.invariant ∙ rw done (filled_whole 4 signed _ _ _ (omega arith) (omega arith) k.ensures.2)
 
 pub loop-i-init : goal.loop-i-init
-loop-i-init c = (omega arith, sym (up_none _ _))
-
-pub signed_of-requires : goal.signed_of-requires
-signed_of-requires c = c.taken.ensures.1
-
-pub bounds-to-i : goal.bounds-to-i
-bounds-to-i c = omega (arith, long (goal.at.bounds-to-i c).At-loop-i)
-
-pub shape_of-to : goal.shape_of-to
-shape_of-to c = long (goal.at.shape_of-to c).At-loop-i
+loop-i-init c = sym (up_none _ _)

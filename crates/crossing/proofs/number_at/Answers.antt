@@ -13,6 +13,3 @@ returns-then-not-is_within c =
 
 pub taken-requires : goal.taken-requires
 taken-requires c = (omega arith, leb-true _ _ (sym c.is_within.ensures ∙ c.if-not-is_within.false))
-
-pub returns : goal.returns
-returns c = c.taken.ensures

@@ -29,6 +29,3 @@ returns c =
     let p = c.loop-left in
     let z : p.left ≡ 0 = omega arith in
     sym (laid_none p.b _) ∙ (rw z at p.invariant.3) ∙ rw (sym c.is_within.ensures ∙ c.if-not-is_within.false)
-
-pub shape_of-b : goal.shape_of-b
-shape_of-b c = c.loop-left.invariant.1

@@ -1,4 +1,3 @@
-use Prim.Native.Nat.{◌-◌, ◌≤◌}
 use mathlib.Core.Path.{◌≡◌}
 use lib.ListN.{get_or}
 use lib.Ieee.{nan}
@@ -6,7 +5,4 @@ use Rattle.keeping.specs.Record.{all_noted}
 use Rattle.keeping.proofs.note_all.Given as goal
 
 abbrev pub invariant-loop-g : goal.invariant-loop-g
-invariant-loop-g l = (l.g ≤ l.count) × (l.kept ≡ all_noted (λ k. get_or l.level k nan) l.step l.g l.initial.kept)
-
-abbrev pub decreases-loop-g : goal.decreases-loop-g
-decreases-loop-g l = l.count - l.g
+invariant-loop-g l = l.kept ≡ all_noted (λ k. get_or l.level k nan) l.step l.g l.initial.kept

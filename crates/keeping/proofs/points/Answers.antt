@@ -62,15 +62,3 @@ returns-else-all-le64 c =
 
 pub loop-g-init : goal.loop-g-init
 loop-g-init c = (omega arith, refl, refl, sym (up_none _ _), sym (up_none _ _))
-
-pub overflow_cast-g : goal.overflow_cast-g
-overflow_cast-g c = record { fits = omega arith }
-
-pub offset_bounds-x-g : goal.offset_bounds-x-g
-offset_bounds-x-g c = record { fits = omega arith }
-
-pub offset_bounds-y-g : goal.offset_bounds-y-g
-offset_bounds-y-g c = record { fits = omega arith }
-
-pub overflow_step-g : goal.overflow_step-g
-overflow_step-g c = record { fits = omega arith }

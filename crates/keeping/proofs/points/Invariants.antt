@@ -1,4 +1,4 @@
-use Prim.Native.Nat.{ℕ, ◌-◌, ◌≤◌}
+use Prim.Native.Nat.{ℕ, ◌≤◌}
 use mathlib.Core.Path.{◌≡◌}
 use mathlib.Core.List.{List}
 use lib.IntN.{ℤ}
@@ -19,6 +19,3 @@ invariant-loop-g l =
     × (length l.initial.y ≡ 64)
     × (l.x ≡ up_to l.g (each l.kept east_field) l.initial.x)
     × (l.y ≡ up_to l.g (each l.kept north_field) l.initial.y)
-
-abbrev pub decreases-loop-g : goal.decreases-loop-g
-decreases-loop-g l = 64 - l.g

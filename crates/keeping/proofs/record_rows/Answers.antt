@@ -41,9 +41,3 @@ returns-then-kept-ne-RECORD_BYTES c = c.refuse.ensures ∙ of_another_length _ c
 
 pub loop-g-init : goal.loop-g-init
 loop-g-init c = (omega arith, λ k l. absurd (omega (arith, l)))
-
-pub overflow_cast-g : goal.overflow_cast-g
-overflow_cast-g c = record { fits = omega arith }
-
-pub overflow_step-g : goal.overflow_step-g
-overflow_step-g c = record { fits = omega arith }

@@ -1,4 +1,4 @@
-use Rattle.std.proofs.Common.{◌≡◌, ℕ, ◌-◌, ◌≤◌, cond, ltb, List, length, ℤ}
+use Rattle.std.proofs.Common.{◌≡◌, ℕ, ◌≤◌, cond, ltb, List, length, ℤ}
 use lib.Ieee.{Float}
 use Rattle.rows.specs.Numbers.{plus0}
 use Rattle.lists.specs.Table.{table}
@@ -23,6 +23,3 @@ invariant-loop-g l =
     (l.g ≤ 64)
     × (l.triangle ≡ table 64 (filled 64 (triangle_at l.ps l.x l.y l.tri l.state) 0 l.g))
     × (l.level ≡ table 64 (filled 64 (level_at l.ps l.x l.y l.tri l.state) plus0 l.g))
-
-abbrev pub decreases-loop-g : goal.decreases-loop-g
-decreases-loop-g l = 64 - l.g

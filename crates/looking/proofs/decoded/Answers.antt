@@ -32,18 +32,3 @@ slice_bounds-survey-end-4 c = omega (arith, c.floats_into.auto.to, c.requires.ho
 
 pub slice_bounds-survey-end-5 : goal.slice_bounds-survey-end-5
 slice_bounds-survey-end-5 c = omega (arith, c.floats_into-2.auto.to, c.requires.holds_state)
-
-pub shape_of-east : goal.shape_of-east
-shape_of-east c = c.ints_into.auto.to
-
-pub shape_of-north : goal.shape_of-north
-shape_of-north c = c.ints_into-2.auto.to
-
-pub shape_of-nodes : goal.shape_of-nodes
-shape_of-nodes c = c.words_into.auto.to
-
-pub shape_of-depths : goal.shape_of-depths
-shape_of-depths c = c.floats_into.auto.to
-
-pub shape_of-values : goal.shape_of-values
-shape_of-values c = c.floats_into-2.auto.to

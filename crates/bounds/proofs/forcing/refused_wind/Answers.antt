@@ -4,7 +4,6 @@ use mathlib.Core.Bool.{Bool}
 use mathlib.Core.List.{List}
 use native.Mathlib.Omega.{arith}
 use borrow.Author.Count.{below_none, below_more}
-use borrow.Author.Rules.{rules}
 use lib.Ieee.{Float}
 use Rattle.rows.proofs.ScanLaws.{row_hit, row_none}
 use Rattle.limits.specs.Limits.{is_calm, row12_wind}
@@ -21,16 +20,16 @@ asked b = sym (b.is_calm.ensures ∙ ap is_calm b.wind_at.ensures)
 pub returns-then-not-is_calm : goal.returns-then-not-is_calm
 unfolding row12_wind
 returns-then-not-is_calm c =
-    c.refuse.ensures ∙ row_hit (test c.args.n c.args.winds.now) 11 (λ i. 2 + i) c.loop-i-test.true c.loop-i.invariant.1 (asked (goal.at.returns-then-not-is_calm c).After-is_calm ∙ c.if-not-is_calm.true)
+    c.refuse.ensures ∙ row_hit (test c.args.n c.args.winds.now) 11 (λ i. 2 + i) c.loop-i-test.true c.loop-i.invariant (asked (goal.at.returns-then-not-is_calm c).After-is_calm ∙ c.if-not-is_calm.true)
 
 pub loop-i-preserved : goal.loop-i-preserved
 loop-i-preserved c =
-    (search rules, below_more _ _ c.loop-i.invariant.1 (asked (goal.at.loop-i-preserved c).After-is_calm ∙ c.if-not-is_calm.false))
+    below_more _ _ c.loop-i.invariant (asked (goal.at.loop-i-preserved c).After-is_calm ∙ c.if-not-is_calm.false)
 
 pub returns : goal.returns
 unfolding row12_wind
 returns c =
-    c.accept.ensures ∙ row_none (test c.args.n c.args.winds.now) 11 (λ i. 2 + i) (λ k h. c.loop-i.invariant.1 k (omega arith))
+    c.accept.ensures ∙ row_none (test c.args.n c.args.winds.now) 11 (λ i. 2 + i) (λ k h. c.loop-i.invariant k (omega arith))
 
 pub loop-i-init : goal.loop-i-init
-loop-i-init c = (search rules, below_none _)
+loop-i-init c = below_none _

@@ -1,4 +1,3 @@
-use Prim.Native.Nat.{◌-◌, ◌≤◌}
 use mathlib.Core.Path.{◌≡◌}
 use lib.Dec.{eqb}
 use Rattle.rows.specs.Scan.{scan}
@@ -7,7 +6,4 @@ use Rattle.bounds.specs.Forcing.{wind_at}
 use Rattle.bounds.proofs.forcing.winds_rows.Given as goal
 
 abbrev pub invariant-loop-i : goal.invariant-loop-i
-invariant-loop-i l = (l.i ≤ l.n) × (l.all ≡ eqb (scan (λ k. row12_wind (wind_at l.n l.winds k) k) l.i).number 0)
-
-abbrev pub decreases-loop-i : goal.decreases-loop-i
-decreases-loop-i l = l.n - l.i
+invariant-loop-i l = l.all ≡ eqb (scan (λ k. row12_wind (wind_at l.n l.winds k) k) l.i).number 0

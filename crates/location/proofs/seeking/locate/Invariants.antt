@@ -1,10 +1,7 @@
-use Rattle.std.proofs.Common.{◌≡◌, ℕ, ◌-◌, ◌<◌, ◌≤◌, false}
+use Rattle.std.proofs.Common.{◌≡◌, ℕ, ◌<◌, false}
 use Rattle.location.specs.Location.{contains}
 use Rattle.location.proofs.seeking.locate.Given as goal
 
 -- no triangle that was passed contains the point
 abbrev pub invariant-loop-t : goal.invariant-loop-t
-invariant-loop-t l = (l.t ≤ l.e) × ((k : ℕ) → k < l.t → contains l.x l.y l.tri l.p k ≡ false)
-
-abbrev pub decreases-loop-t : goal.decreases-loop-t
-decreases-loop-t l = l.e - l.t
+invariant-loop-t l = (k : ℕ) → k < l.t → contains l.x l.y l.tri l.p k ≡ false
