@@ -22,3 +22,9 @@ returns c =
 
 pub loop-g-init : goal.loop-g-init
 loop-g-init c = (omega arith, λ k l. absurd (omega (arith, l)))
+
+pub offset_bounds-triangle-g : goal.offset_bounds-triangle-g
+offset_bounds-triangle-g c = record { fits = omega arith }
+
+pub overflow_step-g : goal.overflow_step-g
+overflow_step-g c = record { fits = omega arith }
