@@ -7,7 +7,7 @@ use quantities::Parameters;
 use std::io;
 
 fn print_number(rt: &impl Print, number: f64) -> io::Result<()> {
-    println!(rt; "{:016X}", patterns::pattern_of(number))
+    println!(rt; "{:016x}", patterns::pattern_of(number))
 }
 
 fn print_state(rt: &impl Print, state: &[f64]) -> io::Result<()> {
