@@ -4,10 +4,11 @@
 ghost use Rattle.std.specs.Prelude.{◌≡◌};
 ghost use Rattle.rows.specs.Numbers.{within};
 ghost use Rattle.rows.specs.Scan.{row};
+ghost use Rattle.rows.specs.Refusals.{number_of, answered};
 ghost use Rattle.limits.specs.Limits.{is_node, row9, is_calm, in_bounds, row11, row12_level};
 
 use quantities::{Node, Parameters, Wind};
-use rows::Answer;
+use rows::{Asked, Row};
 
 // Row 8 of one node: its depth and its kind.
 pub fn is_node(h: f64, kind: u8) -> bool
@@ -17,21 +18,20 @@ pub fn is_node(h: f64, kind: u8) -> bool
 }
 
 // A row whose test is a range.
-fn limit(low: f64, v: f64, high: f64, number: u32, place: usize) -> Answer
-    ensures { result ≡ row (within low v high) number place }
+fn limit(low: f64, v: f64, high: f64, of: Row, place: usize) -> Asked
+    ensures { answered result ≡ row (within low v high) (number_of of) place }
 {
-    rows::tested(rows::in_range(low, v, high), number, place)
+    rows::tested(rows::in_range(low, v, high), of, place)
 }
 
 // Row 9: the first parameter that is out of its range.
-pub fn parameters(p: Parameters) -> Answer
-    ensures { result ≡ row9 p }
+pub fn parameters(p: Parameters) -> Asked
+    ensures { answered result ≡ row9 p }
 {
-    let dt = limit(0.125, p.dt, 60.0, 9, 0);
-    let tau = limit(0.0, p.tau, 1.0, 9, 1);
-    let k = limit(0.0, p.k, 1.0, 9, 2);
-    let f = limit(-0.001, p.f, 0.001, 9, 3);
-    rows::first(dt, rows::first(tau, rows::first(k, f)))
+    limit(0.125, p.dt, 60.0, Row::Parameter, 0)?;
+    limit(0.0, p.tau, 1.0, Row::Parameter, 1)?;
+    limit(0.0, p.k, 1.0, Row::Parameter, 2)?;
+    limit(-0.001, p.f, 0.001, Row::Parameter, 3)
 }
 
 // A wind within 0.1, as rows 10 and 12 ask it of one that is held and of a new one.
@@ -52,15 +52,15 @@ pub fn in_bounds(c: Node) -> bool
 }
 
 // Row 11: the last step number.
-pub fn may_count(step: u32) -> Answer
-    ensures { result ≡ row11 step }
+pub fn may_count(step: u32) -> Asked
+    ensures { answered result ≡ row11 step }
 {
-    rows::tested(step != 4294967295, 11, 0)
+    rows::tested(step != 4294967295, Row::LastStep, 0)
 }
 
 // Row 12 of a forcing's elevation.
-pub fn elevation(z: f64) -> Answer
-    ensures { result ≡ row12_level z }
+pub fn elevation(z: f64) -> Asked
+    ensures { answered result ≡ row12_level z }
 {
-    limit(-30.0, z, 30.0, 12, 1)
+    limit(-30.0, z, 30.0, Row::Forcing, 1)
 }

@@ -2,6 +2,7 @@
 use Rattle.std.specs.Prelude.{ℕ, ◌+◌, ◌*◌, ◌/◌, cond, List, ltb, ℤ, length, get_or, Float}
 use Rattle.lists.specs.Gather.{Three}
 use Rattle.geometry.specs.declared.Corners.{Corners}
+use Rattle.mesh.specs.declared.Mesh as slices
 
 -- "Per node: x and y in whole metres (32-bit signed), depth h, kind 0 (free), 1 (open), 2 (held land)." tri: three node numbers for each triangle
 pub record Mesh : Type 0 where
@@ -13,6 +14,10 @@ pub record Mesh : Type 0 where
 
 abbrev pub mesh : List ℤ → List ℤ → List ℕ → List Float → List ℕ → Mesh
 mesh x y tri h kind = record { x = x; y = y; tri = tri; h = h; kind = kind }
+
+-- the mesh that lent slices hold
+abbrev pub mesh_of : slices.Mesh → Mesh
+mesh_of m = mesh m.x.now m.y.now m.tri.now m.h.now m.kind.now
 
 -- "N is the length of the x slice, E a third of the triangle list's length."
 abbrev pub N : Mesh → ℕ

@@ -5,36 +5,38 @@ pub mod reading;
 pub(crate) mod triangles;
 
 ghost use Rattle.std.specs.Prelude.{◌≡◌};
-ghost use Rattle.mesh.specs.Lent.{mesh};
+ghost use Rattle.rows.specs.Refusals.{answered};
+ghost use Rattle.mesh.specs.Lent.{mesh_of};
 ghost use Rattle.mesh.specs.Rows.{size_rows, shape_rows};
 
-use rows::Answer;
+use rows::{Asked, Row};
+
+// The mesh, as it is lent: x, y, depth and kind of each node, and three node numbers for each triangle.
+#[derive(Clone, Copy)]
+pub struct Mesh<'a> {
+    pub x: &'a [i32],
+    pub y: &'a [i32],
+    pub tri: &'a [u16],
+    pub h: &'a [f64],
+    pub kind: &'a [u8],
+}
 
 // What the call tests before, then rows 1 and 2 of slices of these lengths.
-pub fn size_rows(asked: Answer, n: usize, y: usize, tri: usize, h: usize, kind: usize) -> Answer
-    ensures { result ≡ size_rows asked n y tri h kind }
+pub fn size_rows(asked: Asked, n: usize, y: usize, tri: usize, h: usize, kind: usize) -> Asked
+    ensures { answered result ≡ size_rows (answered asked) n y tri h kind }
 {
+    asked?;
     let e = tri / 3;
     let lengths = (y == n) & (h == n) & (kind == n) & (tri % 3 == 0);
     let counts = (3 <= n) & (n <= 4096) & (1 <= e) & (e <= 8192);
-    let lent = rows::first(rows::tested(lengths, 1, 0), rows::tested(counts, 2, 0));
-    rows::first(asked, lent)
+    rows::tested(lengths, Row::Lengths, 0)?;
+    rows::tested(counts, Row::Counts, 0)
 }
 
 // What the call tests before, then rows 1 to 5.
-pub fn shape_rows(
-    asked: Answer,
-    x: &[i32],
-    y: &[i32],
-    tri: &[u16],
-    h: &[f64],
-    kind: &[u8],
-) -> Answer
-    ensures { result ≡ shape_rows asked (mesh x.now y.now tri.now h.now kind.now) }
+pub fn shape_rows(asked: Asked, m: &Mesh<'_>) -> Asked
+    ensures { answered result ≡ shape_rows (answered asked) (mesh_of m.now) }
 {
-    let lent = size_rows(asked, x.len(), y.len(), tri.len(), h.len(), kind.len());
-    if lent.number != 0 {
-        return lent;
-    }
-    triangles::shapes(x, y, tri)
+    size_rows(asked, m.x.len(), m.y.len(), m.tri.len(), m.h.len(), m.kind.len())?;
+    triangles::shapes(m)
 }

@@ -1,14 +1,16 @@
 // Rows 3 to 5: the triangles.
 ghost use Rattle.std.specs.Prelude.{◌≡◌, ◌/◌, ◌<◌, length};
 ghost use Rattle.lists.specs.Private.{Below};
+ghost use Rattle.rows.specs.Refusals.{answered};
 ghost use Rattle.rows.specs.Scan.{scan};
 ghost use Rattle.geometry.specs.Geometry.{nodes_of};
 ghost use Rattle.mesh.specs.Geometry.{places_of};
 ghost use Rattle.mesh.specs.Rows.{triangle_rows};
 
 use super::reading;
+use super::Mesh;
 use geometry::{Corners, Places};
-use rows::Answer;
+use rows::{Asked, Row};
 
 // The coordinates of a triangle's corners.
 fn places_at(x: &[i32], y: &[i32], c: Corners) -> Places
@@ -29,35 +31,23 @@ fn places_at(x: &[i32], y: &[i32], c: Corners) -> Places
 }
 
 // Rows 3, 4 and 5 of triangle t.
-fn shape(x: &[i32], y: &[i32], tri: &[u16], t: usize) -> Answer
-    requires { (length y.now ≡ length x.now) × (t < length tri.now / 3) }
-    ensures { result ≡ triangle_rows x.now y.now tri.now t }
+fn shape(m: &Mesh<'_>, t: usize) -> Asked
+    requires { (length m.now.y.now ≡ length m.now.x.now) × (t < length m.now.tri.now / 3) }
+    ensures { answered result ≡ triangle_rows m.now.x.now m.now.y.now m.now.tri.now t }
 {
-    let n = x.len();
-    let c = reading::corners_at(tri, t);
-    if (c.n1 < n) & (c.n2 < n) & (c.n3 < n) {
-        let s = geometry::sides_of(places_at(x, y, c));
-        if geometry::all_near(s) {
-            rows::tested(0 < geometry::twice_area(s), 5, t)
-        } else {
-            rows::refuse(4, t)
-        }
-    } else {
-        rows::refuse(3, t)
-    }
+    let n = m.x.len();
+    let c = reading::corners_at(m.tri, t);
+    rows::tested((c.n1 < n) & (c.n2 < n) & (c.n3 < n), Row::Corner, t)?;
+    let s = geometry::sides_of(places_at(m.x, m.y, c));
+    rows::tested(geometry::all_near(s), Row::Side, t)?;
+    rows::tested(0 < geometry::twice_area(s), Row::Area, t)
 }
 
 // Triangle by triangle rows 3, 4 and 5.
-pub(crate) fn shapes(x: &[i32], y: &[i32], tri: &[u16]) -> Answer
-    requires { length y.now ≡ length x.now }
-    ensures { result ≡ scan (triangle_rows x.now y.now tri.now) (length tri.now / 3) }
+pub(crate) fn shapes(m: &Mesh<'_>) -> Asked
+    requires { length m.now.y.now ≡ length m.now.x.now }
+    ensures { answered result ≡ scan (triangle_rows m.now.x.now m.now.y.now m.now.tri.now) (length m.now.tri.now / 3) }
 {
-    let e = tri.len() / 3;
-    for t in 0..e {
-        let answer = shape(x, y, tri, t);
-        if answer.number != 0 {
-            return answer;
-        }
-    }
-    rows::accept()
+    let e = m.tri.len() / 3;
+    (0..e).try_for_each(|t| shape(m, t))
 }

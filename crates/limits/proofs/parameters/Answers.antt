@@ -1,17 +1,13 @@
 use lib.Ieee.{of_bits, neg, round}
 use Rattle.rows.specs.Numbers.{decimal, minus}
+use Rattle.rows.proofs.RefusalLaws.{stopped, went}
 use Rattle.limits.specs.Limits.{row9}
 use Rattle.limits.proofs.parameters.Goals as goal
 
-pub returns : goal.returns
+pub returns-in_err-limit : goal.returns-in_err-limit
 unfolding row9 decimal minus round of_bits neg
-returns c =
-    rw (
-      c.first-3.ensures,
-      c.first-2.ensures,
-      c.first.ensures,
-      c.limit-f.ensures,
-      c.limit-k.ensures,
-      c.limit-tau.ensures,
-      c.limit-dt.ensures,
-    )
+returns-in_err-limit c = stopped _ _ _ c.from_residual.ensures.1 c.in_err-limit.ensures
+
+pub returns-in_err-limit-2 : goal.returns-in_err-limit-2
+unfolding row9 decimal minus round of_bits neg
+returns-in_err-limit-2 c = went c.in_ok-limit.ensures (stopped _ _ _ c.from_residual-in_err-limit-2.ensures.1 c.in_err-limit-2.ensures)

@@ -1,9 +1,7 @@
-use mathlib.Core.Path.{sym}
-use Rattle.rows.proofs.ScanLaws.{then_stop, then_next}
+use mathlib.Core.Path.{ap, ◌∙◌}
+use Rattle.rows.specs.Refusals.{answered}
+use Rattle.rows.proofs.RefusalLaws.{answered_and}
 use Rattle.rows.proofs.first.Goals as goal
 
-pub returns-then-a-eq0 : goal.returns-then-a-eq0
-returns-then-a-eq0 c = sym (then_next _ _ c.if-a-eq0.true)
-
-pub returns-else-a-eq0 : goal.returns-else-a-eq0
-returns-else-a-eq0 c = sym (then_stop _ _ c.if-a-eq0.false)
+pub returns : goal.returns
+returns c = ap answered c.and.ensures ∙ answered_and c.args.a c.args.b
