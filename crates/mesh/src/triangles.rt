@@ -49,5 +49,5 @@ pub(crate) fn shapes(m: &Mesh<'_>) -> Asked
     ensures { answered result ≡ scan (triangle_rows m.now.x.now m.now.y.now m.now.tri.now) (length m.now.tri.now / 3) }
 {
     let e = m.tri.len() / 3;
-    (0..e).try_for_each(|t| shape(m, t))
+    rows::scan(e, |t| shape(m, t))
 }
