@@ -37,6 +37,13 @@ pub fn size_rows(asked: Asked, n: usize, y: usize, tri: usize, h: usize, kind: u
 pub fn shape_rows(asked: Asked, m: &Mesh<'_>) -> Asked
     ensures { answered result ≡ shape_rows (answered asked) (mesh_of m.now) }
 {
-    size_rows(asked, m.x.len(), m.y.len(), m.tri.len(), m.h.len(), m.kind.len())?;
+    size_rows(
+        asked,
+        m.x.len(),
+        m.y.len(),
+        m.tri.len(),
+        m.h.len(),
+        m.kind.len(),
+    )?;
     triangles::shapes(m)
 }

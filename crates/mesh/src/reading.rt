@@ -4,6 +4,7 @@ ghost use Rattle.geometry.specs.Geometry.{nodes_of};
 ghost use Rattle.mesh.specs.Lent.{corners_at};
 ghost use Rattle.mesh.specs.Geometry.{places_of};
 
+use super::Mesh;
 use geometry::{Corners, Places};
 
 // The node number at a place of the triangle list.
@@ -15,14 +16,14 @@ pub(crate) fn node_at(tri: &[u16], at: usize) -> usize
 }
 
 // The corners of triangle t. Its test is the one that a loop over the triangles makes, so that no second one is left where it is called.
-pub fn corners_at(tri: &[u16], t: usize) -> Corners
-    ensures { result ≡ corners_at tri.now t }
+pub fn corners_at(m: &Mesh<'_>, t: usize) -> Corners
+    ensures { result ≡ corners_at m.now.tri.now t }
 {
-    if t < tri.len() / 3 {
+    if t < m.tri.len() / 3 {
         Corners {
-            n1: node_at(tri, 3 * t + 0),
-            n2: node_at(tri, 3 * t + 1),
-            n3: node_at(tri, 3 * t + 2),
+            n1: node_at(m.tri, 3 * t + 0),
+            n2: node_at(m.tri, 3 * t + 1),
+            n3: node_at(m.tri, 3 * t + 2),
         }
     } else {
         Corners {
@@ -41,15 +42,15 @@ fn coordinate(of: &[i32], i: usize) -> i32
 }
 
 // The coordinates of a triangle's corners.
-pub fn places_at(x: &[i32], y: &[i32], c: Corners) -> Places
-    ensures { result ≡ places_of x.now y.now (nodes_of c) }
+pub fn places_at(m: &Mesh<'_>, c: Corners) -> Places
+    ensures { result ≡ places_of m.now.x.now m.now.y.now (nodes_of c) }
 {
     Places {
-        x1: coordinate(x, c.n1),
-        x2: coordinate(x, c.n2),
-        x3: coordinate(x, c.n3),
-        y1: coordinate(y, c.n1),
-        y2: coordinate(y, c.n2),
-        y3: coordinate(y, c.n3),
+        x1: coordinate(m.x, c.n1),
+        x2: coordinate(m.x, c.n2),
+        x3: coordinate(m.x, c.n3),
+        y1: coordinate(m.y, c.n1),
+        y2: coordinate(m.y, c.n2),
+        y3: coordinate(m.y, c.n3),
     }
 }

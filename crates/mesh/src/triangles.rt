@@ -7,26 +7,22 @@ ghost use Rattle.geometry.specs.Geometry.{nodes_of};
 ghost use Rattle.mesh.specs.Geometry.{places_of};
 ghost use Rattle.mesh.specs.Rows.{triangle_rows};
 
-use super::reading;
-use super::Mesh;
+use super::{Mesh, reading};
 use geometry::{Corners, Places};
 use rows::{Asked, Row};
 
-// The coordinates of a triangle's corners.
-fn places_at(x: &[i32], y: &[i32], c: Corners) -> Places
-    requires { (length y.now ≡ length x.now) × Below (nodes_of c) (length x.now) }
-    ensures { result ≡ places_of x.now y.now (nodes_of c) }
+// The coordinates of a triangle's corners, which row 3 has accepted.
+fn places_at(m: &Mesh<'_>, c: Corners) -> Places
+    requires { (length m.now.y.now ≡ length m.now.x.now) × Below (nodes_of c) (length m.now.x.now) }
+    ensures { result ≡ places_of m.now.x.now m.now.y.now (nodes_of c) }
 {
-    let i = c.n1;
-    let j = c.n2;
-    let k = c.n3;
     Places {
-        x1: x[i],
-        x2: x[j],
-        x3: x[k],
-        y1: y[i],
-        y2: y[j],
-        y3: y[k],
+        x1: m.x[c.n1],
+        x2: m.x[c.n2],
+        x3: m.x[c.n3],
+        y1: m.y[c.n1],
+        y2: m.y[c.n2],
+        y3: m.y[c.n3],
     }
 }
 
@@ -36,9 +32,9 @@ fn shape(m: &Mesh<'_>, t: usize) -> Asked
     ensures { answered result ≡ triangle_rows m.now.x.now m.now.y.now m.now.tri.now t }
 {
     let n = m.x.len();
-    let c = reading::corners_at(m.tri, t);
+    let c = reading::corners_at(m, t);
     rows::tested((c.n1 < n) & (c.n2 < n) & (c.n3 < n), Row::Corner, t)?;
-    let s = geometry::sides_of(places_at(m.x, m.y, c));
+    let s = geometry::sides_of(places_at(m, c));
     rows::tested(geometry::all_near(s), Row::Side, t)?;
     rows::tested(0 < geometry::twice_area(s), Row::Area, t)
 }
@@ -48,6 +44,5 @@ pub(crate) fn shapes(m: &Mesh<'_>) -> Asked
     requires { length m.now.y.now ≡ length m.now.x.now }
     ensures { answered result ≡ scan (triangle_rows m.now.x.now m.now.y.now m.now.tri.now) (length m.now.tri.now / 3) }
 {
-    let e = m.tri.len() / 3;
-    rows::scan(e, |t| shape(m, t))
+    rows::scan(m.tri.len() / 3, |t| shape(m, t))
 }

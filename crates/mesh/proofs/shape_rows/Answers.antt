@@ -1,4 +1,4 @@
-use mathlib.Core.Path.{◌≡◌, sym, ◌∙◌}
+use mathlib.Core.Path.{◌∙◌}
 use Rattle.rows.proofs.RefusalLaws.{stopped, went, accepts}
 use Rattle.mesh.proofs.RowLaws.{sizes_of, lent_first_lem}
 use Rattle.mesh.proofs.ShapedLaws.{lent_sized}
