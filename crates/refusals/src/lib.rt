@@ -18,23 +18,17 @@ pub struct Words {
 }
 
 // The text with `part` after it; unchanged where there is no room.
-fn with(text: Words, part: &[u8]) -> Words
+fn with(mut text: Words, part: &[u8]) -> Words
     ensures { result ≡ joined text part.now }
 {
     let at = text.len;
     let n = part.len();
-    if ROOM < n {
+    if n > ROOM || at > ROOM - n {
         return text;
     }
-    if ROOM - n < at {
-        return text;
-    }
-    let mut bytes = text.bytes;
-    for k in 0..n {
-        bytes[at + k] = part[k];
-    }
-    let len = at + n;
-    Words { bytes, len }
+    text.bytes[at..at + n].copy_from_slice(part);
+    text.len = at + n;
+    text
 }
 
 // `refused R at P` and a line feed.

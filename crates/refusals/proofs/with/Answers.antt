@@ -1,37 +1,30 @@
-use Prim.Native.Nat.{◌≤◌, ◌<◌, ◌+◌}
-use mathlib.Core.Path.{◌≡◌}
-use native.Mathlib.Numerals.{add-one}
+use Prim.Native.Nat.{◌≤◌, ◌<◌, ◌+◌, ◌-◌}
+use mathlib.Core.Path.{◌≡◌, refl}
 use native.Mathlib.Omega.{arith}
-use borrow.Author.Rules.{rules}
 use borrow.Author.Tests.{le-leb, lt-leb}
 use lib.ListN.{length}
-use lib.Seq.{paste-zero, paste-suc, take-length}
+use lib.Seq.{take-length}
+use Rattle.std.proofs.lemmas.Slice.{put_mid-paste}
 use Rattle.lines.specs.Building.{laid}
 use Rattle.refusals.specs.Refusals.{room_of_words}
 use Rattle.refusals.specs.Private.{joined}
 use Rattle.refusals.proofs.with.Goals as goal
+use Rattle.refusals.proofs.with.Goals.{then-n-gt-ROOM-via-then-n-gt-ROOM, then-n-gt-ROOM-via-else-n-gt-ROOM+then-at-n}
 
-pub loop-k-preserved : goal.loop-k-preserved
-loop-k-preserved c =
+pub returns-then-n-gt-ROOM : goal.returns-then-n-gt-ROOM
+unfolding joined
+returns-then-n-gt-ROOM c =
     let a = c.args in
-    let z : length a.text.bytes ≡ room_of_words = search rules in
-    rw (c.loop-k.invariant, add-one) (paste-suc a.text.bytes a.text.len a.part.now c.loop-k.k 0 (omega arith) (omega arith))
+    let none : room_of_words < a.text.len + length a.part.now = elim c.then-n-gt-ROOM.branch [
+      | then-n-gt-ROOM-via-then-n-gt-ROOM w ↦ omega arith
+      | then-n-gt-ROOM-via-else-n-gt-ROOM+then-at-n w ↦ omega arith
+    ] in
+    rw (lt-leb _ _ none)
 
 pub returns : goal.returns
 unfolding joined laid
 returns c =
     let a = c.args in
-    let all : c.loop-k.k ≡ length a.part.now = omega arith in
-    let h : a.text.len + length a.part.now ≤ room_of_words = omega arith in
-    rw (le-leb _ _ h, c.loop-k.invariant, all, take-length a.part.now)
-
-pub returns-then-n-gt-ROOM : goal.returns-then-n-gt-ROOM
-unfolding joined
-returns-then-n-gt-ROOM c = let a = c.args in let h : room_of_words < a.text.len + length a.part.now = omega arith in rw (lt-leb _ _ h)
-
-pub returns-then-n-at : goal.returns-then-n-at
-unfolding joined
-returns-then-n-at c = let a = c.args in let h : room_of_words < a.text.len + length a.part.now = omega arith in rw (lt-leb _ _ h)
-
-pub loop-k-init : goal.loop-k-init
-loop-k-init c = let a = c.args in paste-zero a.text.bytes a.text.len a.part.now
+    let some : a.text.len + length a.part.now ≤ room_of_words = omega arith in
+    let wide : length a.part.now ≡ a.text.len + length a.part.now - a.text.len = omega arith in
+    rw (le-leb _ _ some, put_mid-paste a.text.len _ a.text.bytes _ a.part.now _ c.copy_from_slice.ensures.after wide refl, take-length a.part.now)
