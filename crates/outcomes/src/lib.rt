@@ -2,9 +2,11 @@
 #![tactic(auto)]
 
 ghost use Rattle.std.specs.Prelude.{◌≡◌};
+ghost use Rattle.rows.specs.Refusals.{answered};
 ghost use Rattle.outcomes.specs.Outcomes.{of_rise, speed, of_east, of_north, answer_of, rise_row, flow_row};
 
 use quantities::Flow;
+use rows::{Asked, Refusal, Row};
 
 // What becomes of a node: the value that is accepted, or the quantity that left its range: z', H', U' or V'.
 #[derive(Clone, Copy)]
@@ -54,33 +56,33 @@ fn of_north(v: f64) -> Outcome
     speed(v, Outcome::North(v))
 }
 
-fn answer(o: Outcome, node: usize) -> rows::Answer
-    ensures { result ≡ answer_of o node }
+// The refusal of an outcome that has one: its value, and the node's number.
+fn answer(o: Outcome, node: usize) -> Asked
+    ensures { answered result ≡ answer_of o node }
 {
     match o {
-        Outcome::Accepted(_) => rows::accept(),
+        Outcome::Accepted(_) => Ok(()),
         Outcome::Elevation(x) | Outcome::Column(x) | Outcome::East(x) | Outcome::North(x) => {
-            rows::Answer {
-                number: 13,
+            Err(Refusal {
+                row: Row::NextState,
                 place: node,
                 value: x,
-            }
+            })
         }
     }
 }
 
 // Row 13 of a node's z', at depth h.
-pub fn rise_row(h: f64, z: f64, node: usize) -> rows::Answer
-    ensures { result ≡ rise_row h z node }
+pub fn rise_row(h: f64, z: f64, node: usize) -> Asked
+    ensures { answered result ≡ rise_row h z node }
 {
     answer(of_rise(h, z), node)
 }
 
 // Row 13 of a node's U' and V'.
-pub fn flow_row(v: Flow, node: usize) -> rows::Answer
-    ensures { result ≡ flow_row v node }
+pub fn flow_row(v: Flow, node: usize) -> Asked
+    ensures { answered result ≡ flow_row v node }
 {
-    let east = answer(of_east(v.u), node);
-    let north = answer(of_north(v.v), node);
-    rows::first(east, north)
+    answer(of_east(v.u), node)?;
+    answer(of_north(v.v), node)
 }
