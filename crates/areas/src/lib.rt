@@ -6,6 +6,7 @@ ghost use Rattle.geometry.specs.Geometry.{near_d};
 ghost use Rattle.areas.specs.Areas.{above, counted, counted_sum};
 
 use geometry::WholeSides;
+use mesh::Mesh;
 
 // D as a count. One of 0 or less, which row 5 refuses, counts nothing, so that the sum never goes down.
 fn count_of(s: WholeSides) -> u64
@@ -16,23 +17,23 @@ fn count_of(s: WholeSides) -> u64
 }
 
 // D of triangle t as a count.
-fn counted_at(x: &[i32], y: &[i32], tri: &[u16], t: usize) -> u64
-    requires { t < length tri.now / 3 }
-    ensures { result ≡ counted x.now y.now tri.now t }
+fn counted_at(m: &Mesh<'_>, t: usize) -> u64
+    requires { t < length m.now.tri.now / 3 }
+    ensures { result ≡ counted m.now.x.now m.now.y.now m.now.tri.now t }
 {
-    let c = mesh::reading::corners_at(tri, t);
-    count_of(geometry::sides_of(mesh::reading::places_at(x, y, c)))
+    let c = mesh::reading::corners_at(m, t);
+    count_of(geometry::sides_of(mesh::reading::places_at(m, c)))
 }
 
 // The sum of all D, each triangle once. A mesh has at most 8,192 of them: with no more, no sum of counts goes beyond 64 bits.
-pub fn twice_areas(x: &[i32], y: &[i32], tri: &[u16]) -> u64
-    ensures { result ≡ counted_sum x.now y.now tri.now }
+pub fn twice_areas(m: &Mesh<'_>) -> u64
+    ensures { result ≡ counted_sum m.now.x.now m.now.y.now m.now.tri.now }
 {
-    let all = tri.len() / 3;
+    let all = m.tri.len() / 3;
     let e = if all <= 8192 { all } else { 8192 };
     let mut sum = 0;
     for t in 0..e {
-        sum += counted_at(x, y, tri, t);
+        sum += counted_at(m, t);
     }
     sum
 }

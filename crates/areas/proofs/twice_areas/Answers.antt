@@ -12,10 +12,10 @@ use Rattle.areas.proofs.twice_areas.Goals as goal
 use Rattle.areas.proofs.twice_areas.Goals.{Joined-all-le8192, then-all-le8192, else-all-le8192}
 
 -- e is the number of triangles, and no more than a mesh has
-most : (c : Joined-all-le8192) → (c.if-all-le8192.e ≤ length c.args.tri.now / 3) × (c.if-all-le8192.e ≤ 8192)
+most : (c : Joined-all-le8192) → (c.if-all-le8192.e ≤ length c.args.m.now.tri.now / 3) × (c.if-all-le8192.e ≤ 8192)
 most c = elim c.if-all-le8192.branch [ then-all-le8192 w ↦ (omega arith, omega arith) | else-all-le8192 w ↦ (omega arith, omega arith) ]
 
-fewer : (c : Joined-all-le8192) → let all = length c.args.tri.now / 3 in c.if-all-le8192.e ≡ cond (leb all 8192) all 8192
+fewer : (c : Joined-all-le8192) → let all = length c.args.m.now.tri.now / 3 in c.if-all-le8192.e ≡ cond (leb all 8192) all 8192
 fewer c =
     elim c.if-all-le8192.branch [
       | then-all-le8192 w ↦ rw (le-leb _ _ w.if-all-le8192.true) w.e-is
