@@ -3,6 +3,7 @@
 
 ghost use Rattle.std.specs.Prelude.{◌≡◌, ◌≤◌};
 ghost use Rattle.rows.specs.Scan.{◌then◌};
+ghost use Rattle.rows.specs.Refusals.{answered};
 ghost use Rattle.frames.specs.Texts.{due};
 ghost use Rattle.faults.specs.Faults.{fault};
 ghost use Rattle.editions.specs.Lines.{edition1, edition2, edition_of, layout_at};
@@ -11,7 +12,7 @@ ghost use Rattle.editions.specs.Rows.{row23, run_right, row25};
 
 use frames::reading;
 use quantities::{Parameters, Wind};
-use rows::Answer;
+use rows::{Asked, Row};
 
 // The editions of a save.
 #[derive(Clone, Copy)]
@@ -114,18 +115,18 @@ pub fn node_wind(d: Edition, held: Wind, values: [u64; 6]) -> Wind
 }
 
 // Row 23 of a line of this kind: N and E at a head, N at the end line, nothing at another.
-fn counts(n: usize, e: usize, line: &[u8], kind: u8, j: usize) -> Answer
-    ensures { result ≡ row23 n e line.now kind j }
+fn counts(n: usize, e: usize, line: &[u8], kind: u8, j: usize) -> Asked
+    ensures { answered result ≡ row23 n e line.now kind j }
 {
     if (kind == 1) | (kind == 4) {
         let nodes = reading::value(line, 3, 2) == n as u64;
         let triangles = reading::value(line, 5, 2) == e as u64;
-        return rows::tested(nodes & triangles, 23, j);
+        return rows::tested(nodes & triangles, Row::MeshSize, j);
     }
     if kind == 3 {
-        return rows::tested(reading::value(line, 3, 2) == n as u64, 23, j);
+        return rows::tested(reading::value(line, 3, 2) == n as u64, Row::MeshSize, j);
     }
-    rows::accept()
+    Ok(())
 }
 
 // The fields of a line 05 are the run's, bit by bit.
@@ -141,13 +142,13 @@ fn run_right(p: Parameters, sum: u64, line: &[u8]) -> bool
 }
 
 // Row 25 of a line of this kind.
-fn settings(p: Parameters, sum: u64, line: &[u8], kind: u8, j: usize) -> Answer
-    ensures { result ≡ row25 p sum line.now kind j }
+fn settings(p: Parameters, sum: u64, line: &[u8], kind: u8, j: usize) -> Asked
+    ensures { answered result ≡ row25 p sum line.now kind j }
 {
     if kind == 5 {
-        return rows::tested(run_right(p, sum, line), 25, j);
+        return rows::tested(run_right(p, sum, line), Row::Settings, j);
     }
-    rows::accept()
+    Ok(())
 }
 
 // Rows 20 to 23 and 25 of line j, where these digits and this kind are due: of a mesh of n nodes and e triangles, the sum of its D, and parameters.
@@ -160,11 +161,10 @@ pub fn line_row(
     sum: u64,
     p: Parameters,
     j: usize,
-) -> Answer
-    ensures { result ≡ (fault line.now due kind j j then row23 n e line.now kind j then row25 p sum line.now kind j) }
+) -> Asked
+    ensures { answered result ≡ (fault line.now due kind j j then row23 n e line.now kind j then row25 p sum line.now kind j) }
 {
-    let fault = faults::fault(line, due, kind, j as u64, j);
-    let counts = counts(n, e, line, kind, j);
-    let settings = settings(p, sum, line, kind, j);
-    rows::first(fault, rows::first(counts, settings))
+    faults::fault(line, due, kind, j as u64, j)?;
+    counts(n, e, line, kind, j)?;
+    settings(p, sum, line, kind, j)
 }

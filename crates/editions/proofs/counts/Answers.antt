@@ -19,4 +19,4 @@ pub returns : goal.returns
 unfolding row23
 returns c =
     let other : is_head c.args.kind ≡ false = c.if-kind.false in
-    rw (c.accept.ensures, other, ne_eqb _ _ c.if-kind-eq3.false) (sym (row_holds 23 _ refl))
+    rw (other, ne_eqb _ _ c.if-kind-eq3.false) (sym (row_holds 23 _ refl))

@@ -10,4 +10,4 @@ returns-then-kind-eq5 c = rw (c.tested.ensures, c.run_right.ensures, c.if-kind-e
 
 pub returns : goal.returns
 unfolding row25
-returns c = rw (c.accept.ensures, ne_eqb _ _ c.if-kind-eq5.false) (sym (row_holds 25 _ refl))
+returns c = rw (ne_eqb _ _ c.if-kind-eq5.false) (sym (row_holds 25 _ refl))
