@@ -1,12 +1,12 @@
 -- Laws of numbers in bytes: what is read, what is written, a signed number by its pattern, and a slice that is filled with the elements of another.
-use Prim.Native.Nat.{ℕ, suc, ◌+◌, ◌-◌, ◌*◌, ◌/◌, ◌%◌, ◌^◌, ◌<◌, ◌≤◌}
-use mathlib.Core.Path.{◌≡◌, refl, ap, ◌∙◌}
+use Prim.Native.Nat.{ℕ, suc, ◌+◌, ◌-◌, ◌*◌, ◌/◌, ◌%◌, ◌^◌, ◌<◌, ◌≤◌, min}
+use mathlib.Core.Path.{◌≡◌, refl, sym, ap, ◌∙◌}
 use mathlib.Core.Bool.{Bool, true, false, cond, ◌&&◌}
 use mathlib.Core.List.{List}
-use mathlib.Core.Logic.{◌⊎◌, ⊎_elim}
-use native.Mathlib.Nat.{one-le-pow}
+use mathlib.Core.Logic.{◌⊎◌, inl, inr, ⊎_elim}
+use native.Mathlib.Nat.{one-le-pow, mul-le-mul_left, mul-div-le, min-le_left, min-le_right}
 use native.Mathlib.Omega.{arith}
-use borrow.Author.Tests.{le-leb, leb-true, lt-ltb, le-ltb}
+use borrow.Author.Tests.{le-leb, leb-true, leb-false, lt-ltb, le-ltb}
 use lib.Dec.{leb, lit≤}
 use lib.IntN.{ℤ, pos, negsuc, ◌+ℤ◌, ◌-ℤ◌}
 use lib.ListN.{length, take, drop, set, length-drop}
@@ -47,9 +47,13 @@ unfolding number_at
 number_none b at w e = (rw e, one-le-pow w 256 (lit≤ tt))
 
 -- the last byte is written, and the rest of the field is left
-pub byte_turn : (b : List ℕ) (at w v : ℕ) → at + w < length b → laid (set b (at + w) (v % 256)) at (field w (v / 256)) ≡ laid b at (field (suc w) v)
+pub byte_turn : (b : List ℕ) (at w v : ℕ) {n last : ℕ} → at + w < length b → n ≡ suc w → last ≡ at + w
+    → laid (set b last (v % 256)) at (field w (v / 256)) ≡ laid b at (field n v)
 unfolding field
-byte_turn b at w v h = rw field_length at (laid_last b at (field w (v / 256)) (v % 256) (rw field_length h))
+byte_turn b at w v h e l =
+    ap (λ (k : ℕ). laid (set b k (v % 256)) at (field w (v / 256))) l
+    ∙ (rw field_length at (laid_last b at (field w (v / 256)) (v % 256) (rw field_length h)))
+    ∙ ap (λ (k : ℕ). laid b at (field k v)) (sym e)
 
 -- ---- what is read of a slice with a number written into it
 module _ (b : List ℕ) (at w v : ℕ) where
@@ -143,12 +147,23 @@ pub raised_kept : (z : ℤ) → SFits w32 z → to_z w64 (of_z w64 (to_z w64 (of
 raised_kept z h = rw (raised_sum z h) (to_z_pos w64 {n = raised z} (raised_small z h))
 
 -- ---- a loop that fills a slice with the elements of w bytes each of another, as f reads them
+-- an element that is one of those that b has is there whole
+pub element_there : (w i n : ℕ) → i < n / w → w * i + w ≤ n
+element_there w i n h = let k : w * suc i ≤ w * (n / w) = mul-le-mul_left w h in omega (arith, k, mul-div-le n w)
+
+fewest : (m n : ℕ) → (m ≤ min m n) ⊎ (n ≤ min m n)
+fewest m n = go (leb m n) refl
+  where
+    go : (c : Bool) → leb m n ≡ c → (m ≤ min m n) ⊎ (n ≤ min m n)
+    go true e = let h = leb-true m n e in inl (omega arith)
+    go false e = let h = leb-false m n e in inr (omega arith)
+
 module _ {A : Type 0} (w : ℕ) (f : ℕ → A) (b : List ℕ) where
   -- what it is to write at place i
   abbrev pub element : ℕ → A
   element i = f (number_at b (w * i) w)
 
-  pub filled_whole : (to : List A) (n : ℕ) → n ≤ length to → n ≤ length b / w → (length to ≤ n) ⊎ (length b / w ≤ n)
-      → up_to n element to ≡ copied (elements w f b) to
+  pub filled_whole : (to : List A) {n : ℕ} → n ≡ min (length to) (length b / w) → up_to n element to ≡ copied (elements w f b) to
   unfolding elements
-  filled_whole to n h g e = up_table (length b / w) element to n h g e
+  filled_whole to e =
+      ap (λ (n : ℕ). up_to n element to) e ∙ up_table (length b / w) element to _ (min-le_left _ _) (min-le_right _ _) (fewest _ _)

@@ -1,22 +1,16 @@
 // Numbers as they cross in bytes, big-endian: read and written, and whole slices decoded.
 #![tactic(auto)]
 
-ghost use Rattle.std.specs.Prelude.{◌≡◌, ◌⊎◌, ◌+◌, ◌<◌, ◌≤◌, ◌^◌, leb, length};
+ghost use Rattle.std.specs.Prelude.{◌≡◌, ℕ, ◌+◌, ◌<◌, ◌≤◌, ◌^◌, leb, length};
 ghost use Rattle.lists.specs.Table.{copied};
-ghost use Rattle.crossing.specs.Crossing.{number_at, written_at, signed, unsigned, ints_of, words_of, floats_of};
+ghost use Rattle.crossing.specs.Crossing.{number_at, written_at, signed, unsigned, elements, ints_of, words_of, floats_of};
 
 // ---- one number
 // Whether the w places from place `at` on are all below n.
 fn is_within(at: usize, w: usize, n: usize) -> bool
     ensures { result ≡ leb (at + w) n }
 {
-    if n < w {
-        return false;
-    }
-    if n - w < at {
-        return false;
-    }
-    true
+    w <= n && at <= n - w
 }
 
 // A byte as a number, with its bound: of an element of a slice the bound is not known otherwise.
@@ -50,13 +44,11 @@ fn taken_8(b: &[u8], at: usize) -> u64
 pub fn number_at(b: &[u8], at: usize, w: usize) -> u64
     ensures { (result ≡ number_at b.now at w) × (result < 256 ^ w) }
 {
-    if 8 < w {
-        return 0;
+    if w <= 8 && is_within(at, w, b.len()) {
+        taken(b, at, w)
+    } else {
+        0
     }
-    if !is_within(at, w, b.len()) {
-        return 0;
-    }
-    taken(b, at, w)
 }
 
 // The lowest w bytes of v, written from the last to the first, so that each is a remainder.
@@ -67,10 +59,8 @@ pub fn put_number(b: &mut [u8], at: usize, w: usize, v: u64)
         return;
     }
     let mut rest = v;
-    let mut left = w;
-    while 0 < left {
-        left -= 1;
-        b[at + left] = (rest % 256) as u8;
+    for k in 0..w {
+        b[at + (w - 1 - k)] = (rest % 256) as u8;
         rest = rest / 256;
     }
 }
@@ -100,36 +90,32 @@ pub fn int_at(b: &[u8], at: usize) -> i32
     signed_of(number_at(b, at, 4))
 }
 
-// ---- whole slices: as many elements as both have room for
-fn fewer(a: usize, b: usize) -> usize
-    ensures { (result ≤ a) × (result ≤ b) × ((a ≤ result) ⊎ (b ≤ result)) }
+// ---- whole slices: as many elements as both have
+// Each element of `width` bytes as `read` reads it at its place.
+fn decoded_into<T: Copy, F: Fn(usize) -> T>(to: &mut [T], from: &[u8], width: usize, read: F)
+    requires wide { 0 < width }
+    requires callable { (at : ℕ) → at + width ≤ length from.now → F.pre read at }
+    ensures { (f : ℕ → T) → ((at : ℕ) (r : _) → at + width ≤ length from.now → F.post read at r → r ≡ f (number_at from.now at width)) → to.new ≡ copied (elements width f from.now) to.old }
 {
-    if a < b { a } else { b }
+    for i in 0..usize::min(to.len(), from.len() / width) {
+        to[i] = read(width * i);
+    }
 }
 
 pub fn ints_into(to: &mut [i32], from: &[u8])
     ensures { to.new ≡ copied (ints_of from.now) to.old }
 {
-    let n = fewer(to.len(), from.len() / 4);
-    for i in 0..n {
-        to[i] = signed_of(taken(from, 4 * i, 4));
-    }
+    decoded_into(to, from, 4, |at| signed_of(taken(from, at, 4)));
 }
 
 pub fn words_into(to: &mut [u16], from: &[u8])
     ensures { to.new ≡ copied (words_of from.now) to.old }
 {
-    let n = fewer(to.len(), from.len() / 2);
-    for i in 0..n {
-        to[i] = taken(from, 2 * i, 2) as u16;
-    }
+    decoded_into(to, from, 2, |at| taken(from, at, 2) as u16);
 }
 
 pub fn floats_into(to: &mut [f64], from: &[u8])
     ensures { to.new ≡ copied (floats_of from.now) to.old }
 {
-    let n = fewer(to.len(), from.len() / 8);
-    for i in 0..n {
-        to[i] = patterns::float_of(taken_8(from, 8 * i));
-    }
+    decoded_into(to, from, 8, |at| patterns::float_of(taken_8(from, at)));
 }

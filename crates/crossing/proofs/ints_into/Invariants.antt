@@ -1,8 +1,0 @@
-use mathlib.Core.Path.{◌≡◌}
-use Rattle.lists.specs.Private.{up_to}
-use Rattle.crossing.specs.Crossing.{signed}
-use Rattle.crossing.proofs.CrossLaws.{element}
-use Rattle.crossing.proofs.ints_into.Given as goal
-
-abbrev pub invariant-loop-i : goal.invariant-loop-i
-invariant-loop-i l = l.to ≡ up_to l.i (element 4 signed l.from) l.initial.to
