@@ -15,15 +15,15 @@ pub(crate) fn node_at(tri: &[u16], at: usize) -> usize
     tri[at] as usize
 }
 
-// The corners of triangle t. Its test is the one that a loop over the triangles makes, so that no second one is left where it is called.
-pub fn corners_at(m: &Mesh<'_>, t: usize) -> Corners
-    ensures { result ≡ corners_at m.now.tri.now t }
+// The corners of triangle t of a list. Its test is the one that a loop over the triangles makes, so that no second one is left where it is called.
+pub fn corners_of(tri: &[u16], t: usize) -> Corners
+    ensures { result ≡ corners_at tri.now t }
 {
-    if t < m.tri.len() / 3 {
+    if t < tri.len() / 3 {
         Corners {
-            n1: node_at(m.tri, 3 * t + 0),
-            n2: node_at(m.tri, 3 * t + 1),
-            n3: node_at(m.tri, 3 * t + 2),
+            n1: node_at(tri, 3 * t + 0),
+            n2: node_at(tri, 3 * t + 1),
+            n3: node_at(tri, 3 * t + 2),
         }
     } else {
         Corners {
@@ -32,6 +32,13 @@ pub fn corners_at(m: &Mesh<'_>, t: usize) -> Corners
             n3: 0,
         }
     }
+}
+
+// The corners of a mesh's triangle t.
+pub fn corners_at(m: &Mesh<'_>, t: usize) -> Corners
+    ensures { result ≡ corners_at m.now.tri.now t }
+{
+    corners_of(m.tri, t)
 }
 
 // A node's coordinate, and 0 where there is no such node: no row has to have been asked of these slices.
