@@ -3,13 +3,14 @@
 
 ghost use Rattle.std.specs.Prelude.{◌≡◌, ◌+◌, ◌*◌, ◌/◌, ◌%◌, ◌<◌, length};
 ghost use Rattle.lists.specs.Private.{Below};
+ghost use Rattle.rows.specs.Refusals.{answered};
 ghost use Rattle.rows.specs.Scan.{scan};
 ghost use Rattle.geometry.specs.Geometry.{nodes_of};
 ghost use Rattle.legs.specs.Legs.{is_leg, row6};
 ghost use Rattle.legs.specs.Private.{corner_of};
 
 use geometry::Corners;
-use rows::Answer;
+use rows::{Asked, Row};
 
 // The leg from corner j, from 0, as one number, so that both its ends are compared at once.
 fn leg(c: Corners, j: usize) -> usize
@@ -35,16 +36,16 @@ fn leg_seen(its: Corners, j: usize, c: Corners) -> bool
 }
 
 // Row 6: a scan over the pairs of triangles and the legs of the later one, left by its label at the first leg seen before.
-pub fn leg_rows(tri: &[u16]) -> Answer
-    ensures { result ≡ scan (row6 tri.now) (length tri.now / 3) }
+pub fn leg_rows(tri: &[u16]) -> Asked
+    ensures { answered result ≡ scan (row6 tri.now) (length tri.now / 3) }
 {
     let e = tri.len() / 3;
     let mut t = 0;
     'pairs: while t < e {
-        let its = mesh::reading::corners_at(tri, t);
+        let its = mesh::reading::corners_of(tri, t);
         let mut s = 0;
         while s < t {
-            let c = mesh::reading::corners_at(tri, s);
+            let c = mesh::reading::corners_of(tri, s);
             let mut j = 0;
             while j < 3 {
                 if leg_seen(its, j, c) {
@@ -56,9 +57,5 @@ pub fn leg_rows(tri: &[u16]) -> Answer
         }
         t += 1;
     }
-    if t < e {
-        rows::refuse(6, t)
-    } else {
-        rows::accept()
-    }
+    rows::tested(t == e, Row::Leg, t)
 }

@@ -1,11 +1,13 @@
-use Prim.Native.Nat.{ℕ}
+use Prim.Native.Nat.{ℕ, ◌/◌}
 use mathlib.Core.Path.{◌≡◌, sym, ap, ◌∙◌}
 use native.Mathlib.Omega.{arith}
 use borrow.Author.Count.{below_none, below_more}
 use borrow.Author.Rules.{rules}
+use borrow.Author.Tests.{eq-eqb, ne_eqb}
+use lib.ListN.{length}
 use Rattle.rows.specs.declared.Answer.{Answer}
 use Rattle.rows.specs.Scan.{refused}
-use Rattle.rows.proofs.ScanLaws.{scan_none, scan_hit, some_none}
+use Rattle.rows.proofs.ScanLaws.{row_holds, row_fails, scan_none, scan_hit, some_none}
 use Rattle.geometry.specs.Geometry.{nodes_of}
 use Rattle.mesh.specs.Lent.{corners}
 use Rattle.legs.specs.Legs.{row6}
@@ -19,12 +21,12 @@ six e z = absurd (omega (arith, ap (λ (b : Answer). b.number) e, z))
 
 -- the corners that were read are those of triangle t, and of the earlier triangle s
 later : (l : At-loop-s)
-    → nodes_of l.corners_at-its.result ≡ corners l.args.tri.now l.pairs.t
-later l = corners_read _ _ l.pairs-test.true l.corners_at-its.ensures
+    → nodes_of l.corners_of-its.result ≡ corners l.args.tri.now l.pairs.t
+later l = corners_read _ _ l.pairs-test.true l.corners_of-its.ensures
 
 earlier : (k : At-loop-j)
-    → nodes_of k.corners_at-c.result ≡ corners k.args.tri.now k.loop-s.s
-earlier k = corners_read _ _ (omega (arith, k.loop-s-test.true, k.pairs-test.true)) k.corners_at-c.ensures
+    → nodes_of k.corners_of-c.result ≡ corners k.args.tri.now k.loop-s.s
+earlier k = corners_read _ _ (omega (arith, k.loop-s-test.true, k.pairs-test.true)) k.corners_of-c.ensures
 
 pub pairs-init : goal.pairs-init
 pairs-init c = (search rules, below_none _)
@@ -51,18 +53,20 @@ loop-s-preserved c = (search rules, below_more _ _ c.loop-s.invariant.1 (some_no
 pub pairs-preserved : goal.pairs-preserved
 pairs-preserved c = (search rules, below_more _ _ c.pairs.invariant.1 (legs_new _ _ (λ q h. c.loop-s.invariant.1 q (omega arith))))
 
-pub returns-then-t-e : goal.returns-then-t-e
-returns-then-t-e c =
-    let old : row6 c.args.tri.now c.pairs.t ≡ refused 6 c.pairs.t =
+pub returns : goal.returns
+returns c =
     elim c.pairs-test.branch [
-      | else-pairs-test w ↦ absurd (omega arith)
+      | else-pairs-test w ↦
+          let end : c.pairs.t ≡ length c.args.tri.now / 3 = omega arith in
+          c.tested.ensures ∙ row_holds 6 c.pairs.t (eq-eqb _ _ end) ∙ sym (scan_none _ _ (λ k h. c.pairs.invariant.1 k (omega arith)))
       | then-pairs-test+then-loop-s-test+then-loop-j-test+then-leg_seen w ↦
+          let old : row6 c.args.tri.now c.pairs.t ≡ refused 6 c.pairs.t =
           leg_old _ _ _ _ w.loop-s-test.true w.loop-j-test.true
-          (sym (seen_leg c.args.tri.now c.pairs.t w.loop-j.j w.loop-s.s w.loop-j-test.true (corners_read _ _ w.pairs-test.true w.corners_at-its.ensures) (corners_read _ _ (omega (arith, w.loop-s-test.true, w.pairs-test.true)) w.corners_at-c.ensures))
+          (sym (seen_leg c.args.tri.now c.pairs.t w.loop-j.j w.loop-s.s w.loop-j-test.true (corners_read _ _ w.pairs-test.true w.corners_of-its.ensures) (corners_read _ _ (omega (arith, w.loop-s-test.true, w.pairs-test.true)) w.corners_of-c.ensures))
           ∙ sym w.leg_seen.ensures
-          ∙ w.if-leg_seen.true)
-    ] in
-    c.refuse.ensures ∙ sym old ∙ sym (scan_hit _ _ _ c.if-t-e.true c.pairs.invariant.1 (six old))
-
-pub returns-else-t-e : goal.returns-else-t-e
-returns-else-t-e c = c.accept.ensures ∙ sym (scan_none _ _ (λ k h. c.pairs.invariant.1 k (omega arith)))
+          ∙ w.if-leg_seen.true) in
+          c.tested.ensures
+          ∙ row_fails 6 c.pairs.t (ne_eqb _ _ (λ e. absurd (omega (arith, e, w.pairs-test.true))))
+          ∙ sym old
+          ∙ sym (scan_hit _ _ _ w.pairs-test.true c.pairs.invariant.1 (six old))
+    ]
