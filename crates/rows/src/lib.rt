@@ -117,10 +117,11 @@ impl From<Asked> for Answer {
 pub fn refuse(of: Row, place: usize) -> Asked
     ensures { answered result ≡ refused (number_of of) place }
 {
+    let value = 0.0;
     Err(Refusal {
         row: of,
         place,
-        value: 0.0,
+        value,
     })
 }
 
@@ -128,11 +129,7 @@ pub fn refuse(of: Row, place: usize) -> Asked
 pub fn tested(holds: bool, of: Row, place: usize) -> Asked
     ensures { answered result ≡ row holds (number_of of) place }
 {
-    if holds {
-        Ok(())
-    } else {
-        refuse(of, place)
-    }
+    if holds { Ok(()) } else { refuse(of, place) }
 }
 
 // The first of two answers that refuses.
@@ -167,7 +164,10 @@ pub fn scan_tests<F: Fn(usize) -> bool>(n: usize, holds: F, of: Row, first: usiz
     if all {
         return Ok(());
     }
-    scan(n, |i| tested(holds(i), of, first + i))
+    scan(n, |i| {
+        let place = first + i;
+        tested(holds(i), of, place)
+    })
 }
 
 // A NaN is outside every range.
