@@ -1,62 +1,51 @@
 // The mesh's rows of the refusal table, 1 to 9, in the document's order: after the mesh's own those of its nodes.
 #![tactic(auto)]
 
-pub(crate) mod depths;
 pub(crate) mod marks;
 
 ghost use Rattle.std.specs.Prelude.{◌≡◌, ℕ, ◌<◌, ◌≤◌, length, get_or};
-ghost use Rattle.mesh.specs.Lent.{mesh};
-ghost use Rattle.nodes.specs.Rows.{node_rows, mesh_rows, open_rows};
+ghost use Rattle.rows.specs.Refusals.{answered};
+ghost use Rattle.rows.specs.Scan.{scan};
+ghost use Rattle.mesh.specs.Lent.{mesh_of};
+ghost use Rattle.nodes.specs.Rows.{row8, node_rows, mesh_rows, open_rows};
 
+use mesh::Mesh;
 use quantities::Parameters;
-use rows::Answer;
+use rows::{Asked, Row};
+
+// Row 8: the first node whose depth or kind is out of range.
+fn depths(n: usize, h: &[f64], kind: &[u8]) -> Asked
+    requires { (length h.now ≡ n) × (length kind.now ≡ n) }
+    ensures { answered result ≡ scan (row8 h.now kind.now) n }
+{
+    rows::scan_tests(n, |i| limits::is_node(h[i], kind[i]), Row::Depth, 0)
+}
 
 // Rows 7, 8 and 9.
-fn node_rows(n: usize, tri: &[u16], h: &[f64], kind: &[u8], p: Parameters) -> Answer
-    requires n_bound { (n ≤ 4096) × (length h.now ≡ n) × (length kind.now ≡ n) }
-    requires by_index { (j : ℕ) → j < length tri.now → get_or tri.now j 0 < n }
-    ensures { result ≡ node_rows n tri.now h.now kind.now p }
+fn node_rows(m: &Mesh<'_>, p: Parameters) -> Asked
+    requires n_bound { (length m.now.x.now ≤ 4096) × (length m.now.h.now ≡ length m.now.x.now) × (length m.now.kind.now ≡ length m.now.x.now) }
+    requires by_index { (j : ℕ) → j < length m.now.tri.now → get_or m.now.tri.now j 0 < length m.now.x.now }
+    ensures { answered result ≡ node_rows (length m.now.x.now) m.now.tri.now m.now.h.now m.now.kind.now p }
 {
-    let named = marks::named(n, tri);
-    let depths = depths::depths(n, h, kind);
-    rows::first(named, rows::first(depths, limits::parameters(p)))
+    let n = m.x.len();
+    marks::named(n, m.tri)?;
+    depths(n, m.h, m.kind)?;
+    limits::parameters(p)
 }
 
 // What the call tests before, then rows 1 to 9 but for row 6, which is tested only where a mesh is opened.
-pub fn mesh_rows(
-    asked: Answer,
-    x: &[i32],
-    y: &[i32],
-    tri: &[u16],
-    h: &[f64],
-    kind: &[u8],
-    p: Parameters,
-) -> Answer
-    ensures { result ≡ mesh_rows asked (mesh x.now y.now tri.now h.now kind.now) p }
+pub fn mesh_rows(asked: Asked, m: &Mesh<'_>, p: Parameters) -> Asked
+    ensures { answered result ≡ mesh_rows (answered asked) (mesh_of m.now) p }
 {
-    let shape = mesh::shape_rows(asked, x, y, tri, h, kind);
-    if shape.number != 0 {
-        return shape;
-    }
-    node_rows(x.len(), tri, h, kind, p)
+    mesh::shape_rows(asked, m)?;
+    node_rows(m, p)
 }
 
 // What the call tests before, then rows 1 to 9.
-pub fn open_rows(
-    asked: Answer,
-    x: &[i32],
-    y: &[i32],
-    tri: &[u16],
-    h: &[f64],
-    kind: &[u8],
-    p: Parameters,
-) -> Answer
-    ensures { result ≡ open_rows asked (mesh x.now y.now tri.now h.now kind.now) p }
+pub fn open_rows(asked: Asked, m: &Mesh<'_>, p: Parameters) -> Asked
+    ensures { answered result ≡ open_rows (answered asked) (mesh_of m.now) p }
 {
-    let shape = mesh::shape_rows(asked, x, y, tri, h, kind);
-    if shape.number != 0 {
-        return shape;
-    }
-    let nodes = node_rows(x.len(), tri, h, kind, p);
-    rows::first(legs::leg_rows(tri), nodes)
+    mesh::shape_rows(asked, m)?;
+    legs::leg_rows(m.tri)?;
+    node_rows(m, p)
 }

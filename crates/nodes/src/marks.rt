@@ -1,10 +1,11 @@
 // Row 7: the marks.
 ghost use Rattle.std.specs.Prelude.{◌≡◌, ℕ, ◌<◌, ◌≤◌, length, get_or};
+ghost use Rattle.rows.specs.Refusals.{answered};
 ghost use Rattle.rows.specs.Scan.{scan};
 ghost use Rattle.lists.specs.Table.{table};
 ghost use Rattle.nodes.specs.Rows.{is_named, row7};
 
-use rows::Answer;
+use rows::{Asked, Row};
 
 // Each node is marked when a triangle names it.
 fn marks(tri: &[u16]) -> [bool; 4096]
@@ -20,16 +21,11 @@ fn marks(tri: &[u16]) -> [bool; 4096]
 }
 
 // Row 7: the first node below n that no triangle names.
-pub(crate) fn named(n: usize, tri: &[u16]) -> Answer
+pub(crate) fn named(n: usize, tri: &[u16]) -> Asked
     requires n_bound { n ≤ 4096 }
     requires by_index { (j : ℕ) → j < length tri.now → get_or tri.now j 0 < n }
-    ensures { result ≡ scan (row7 tri.now) n }
+    ensures { answered result ≡ scan (row7 tri.now) n }
 {
     let seen = marks(tri);
-    for i in 0..n {
-        if !seen[i] {
-            return rows::refuse(7, i);
-        }
-    }
-    rows::accept()
+    rows::scan(n, |i| rows::tested(seen[i], Row::Unnamed, i))
 }
