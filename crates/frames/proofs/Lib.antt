@@ -1,3 +1,4 @@
+pub mod KindLaws
 pub mod ByteLaws
 pub mod TallyLaws
 pub mod FrameLaws

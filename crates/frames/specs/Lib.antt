@@ -1,4 +1,5 @@
 pub mod Bytes
+pub mod Kinds
 pub mod Frames
 pub mod Texts
 pub mod Spelling
