@@ -4,13 +4,14 @@
 ghost use Rattle.std.specs.Prelude.{◌≡◌, ◌≤◌};
 ghost use Rattle.rows.specs.Scan.{◌then◌};
 ghost use Rattle.rows.specs.Refusals.{answered};
+ghost use Rattle.frames.specs.Kinds.{kind_of};
 ghost use Rattle.frames.specs.Texts.{due};
 ghost use Rattle.faults.specs.Faults.{fault};
 ghost use Rattle.editions.specs.Lines.{edition1, edition2, edition_of, layout_at};
 ghost use Rattle.editions.specs.Editions.{lines_of, wind_in};
 ghost use Rattle.editions.specs.Rows.{row23, run_right, row25};
 
-use frames::reading;
+use frames::{Kind, reading};
 use quantities::{Parameters, Wind};
 use rows::{Asked, Row};
 
@@ -36,64 +37,64 @@ pub fn edition_of(text: &[u8]) -> Edition
 #[derive(Clone, Copy)]
 pub struct LineKind {
     pub digits: usize,
-    pub kind: u8,
+    pub kind: Kind,
 }
 
 // What is due at line j of edition 1: head, nodes, end.
 fn due_in_one(n: usize, j: usize) -> LineKind
-    ensures { (result.digits ≡ due (layout_at edition1 n) j) × (result.kind ≡ (layout_at edition1 n j).kind) × (result.digits ≤ 104) }
+    ensures { (result.digits ≡ due (layout_at edition1 n) j) × (kind_of result.kind ≡ (layout_at edition1 n j).kind) × (result.digits ≤ 104) }
 {
     if j == 0 {
         return LineKind {
             digits: 56,
-            kind: 1,
+            kind: Kind::Head1,
         };
     }
     if j <= n {
         LineKind {
             digits: 72,
-            kind: 2,
+            kind: Kind::Node1,
         }
     } else {
         LineKind {
             digits: 12,
-            kind: 3,
+            kind: Kind::End,
         }
     }
 }
 
 // And of edition 2: head, line 05, nodes, end.
 fn due_in_two(n: usize, j: usize) -> LineKind
-    ensures { (result.digits ≡ due (layout_at edition2 n) j) × (result.kind ≡ (layout_at edition2 n j).kind) × (result.digits ≤ 104) }
+    ensures { (result.digits ≡ due (layout_at edition2 n) j) × (kind_of result.kind ≡ (layout_at edition2 n j).kind) × (result.digits ≤ 104) }
 {
     if j == 0 {
         return LineKind {
             digits: 24,
-            kind: 4,
+            kind: Kind::Head2,
         };
     }
     if j == 1 {
         return LineKind {
             digits: 88,
-            kind: 5,
+            kind: Kind::Run,
         };
     }
     if j - 2 < n {
         LineKind {
             digits: 104,
-            kind: 6,
+            kind: Kind::Node2,
         }
     } else {
         LineKind {
             digits: 12,
-            kind: 3,
+            kind: Kind::End,
         }
     }
 }
 
 // And of either.
 pub fn due(d: Edition, n: usize, j: usize) -> LineKind
-    ensures { (result.digits ≡ due (layout_at (lines_of d) n) j) × (result.kind ≡ (layout_at (lines_of d) n j).kind) × (result.digits ≤ 104) }
+    ensures { (result.digits ≡ due (layout_at (lines_of d) n) j) × (kind_of result.kind ≡ (layout_at (lines_of d) n j).kind) × (result.digits ≤ 104) }
 {
     match d {
         Edition::One => due_in_one(n, j),
@@ -115,18 +116,18 @@ pub fn node_wind(d: Edition, held: Wind, values: [u64; 6]) -> Wind
 }
 
 // Row 23 of a line of this kind: N and E at a head, N at the end line, nothing at another.
-fn counts(n: usize, e: usize, line: &[u8], kind: u8, j: usize) -> Asked
-    ensures { answered result ≡ row23 n e line.now kind j }
+fn counts(n: usize, e: usize, line: &[u8], kind: Kind, j: usize) -> Asked
+    ensures { answered result ≡ row23 n e line.now (kind_of kind) j }
 {
-    if (kind == 1) | (kind == 4) {
-        let nodes = reading::value(line, 3, 2) == n as u64;
-        let triangles = reading::value(line, 5, 2) == e as u64;
-        return rows::tested(nodes & triangles, Row::MeshSize, j);
+    match kind {
+        Kind::Head1 | Kind::Head2 => {
+            let nodes = reading::value(line, 3, 2) == n as u64;
+            let triangles = reading::value(line, 5, 2) == e as u64;
+            rows::tested(nodes & triangles, Row::MeshSize, j)
+        }
+        Kind::End => rows::tested(reading::value(line, 3, 2) == n as u64, Row::MeshSize, j),
+        _ => Ok(()),
     }
-    if kind == 3 {
-        return rows::tested(reading::value(line, 3, 2) == n as u64, Row::MeshSize, j);
-    }
-    Ok(())
 }
 
 // The fields of a line 05 are the run's, bit by bit.
@@ -142,27 +143,27 @@ fn run_right(p: Parameters, sum: u64, line: &[u8]) -> bool
 }
 
 // Row 25 of a line of this kind.
-fn settings(p: Parameters, sum: u64, line: &[u8], kind: u8, j: usize) -> Asked
-    ensures { answered result ≡ row25 p sum line.now kind j }
+fn settings(p: Parameters, sum: u64, line: &[u8], kind: Kind, j: usize) -> Asked
+    ensures { answered result ≡ row25 p sum line.now (kind_of kind) j }
 {
-    if kind == 5 {
-        return rows::tested(run_right(p, sum, line), Row::Settings, j);
+    match kind {
+        Kind::Run => rows::tested(run_right(p, sum, line), Row::Settings, j),
+        _ => Ok(()),
     }
-    Ok(())
 }
 
 // Rows 20 to 23 and 25 of line j, where these digits and this kind are due: of a mesh of n nodes and e triangles, the sum of its D, and parameters.
 pub fn line_row(
     line: &[u8],
     due: usize,
-    kind: u8,
+    kind: Kind,
     n: usize,
     e: usize,
     sum: u64,
     p: Parameters,
     j: usize,
 ) -> Asked
-    ensures { answered result ≡ (fault line.now due kind j j then row23 n e line.now kind j then row25 p sum line.now kind j) }
+    ensures { answered result ≡ (fault line.now due (kind_of kind) j j then row23 n e line.now (kind_of kind) j then row25 p sum line.now (kind_of kind) j) }
 {
     faults::fault(line, due, kind, j as u64, j)?;
     counts(n, e, line, kind, j)?;

@@ -1,22 +1,25 @@
-use mathlib.Core.Path.{◌≡◌, refl, sym}
-use mathlib.Core.Bool.{true, false}
-use borrow.Author.Tests.{ne_eqb}
-use Rattle.rows.proofs.ScanLaws.{row_holds}
+use mathlib.Core.Path.{◌≡◌}
+use mathlib.Core.Bool.{true}
+use mathlib.Core.Logic.{⊎_elim}
+use Rattle.rows.specs.Scan.{row}
+use Rattle.frames.specs.Kinds.{kind_of}
+use Rattle.frames.specs.declared.Kind.TheVariants.{Head1, End, Head2}
+use Rattle.frames.proofs.KindLaws.{kind_other}
 use Rattle.editions.specs.Rows.{is_head, row23}
 use Rattle.editions.proofs.counts.Goals as goal
 
-pub returns-then-kind : goal.returns-then-kind
+pub returns-in-Head1 : goal.returns-in-Head1
 unfolding row23
-returns-then-kind c =
-    let head : is_head c.args.kind ≡ true = c.if-kind.true in
-    rw (c.tested.ensures, c.value-then-kind.ensures, c.value.ensures, head)
+returns-in-Head1 c =
+    let head : is_head (kind_of c.args.kind) ≡ true = ⊎_elim (λ e. rw e) (λ e. rw e) c.in-Head1.is in
+    rw (c.tested.ensures, c.value.ensures, c.value-in-Head1.ensures, head)
 
-pub returns-then-kind-eq3 : goal.returns-then-kind-eq3
+pub returns-in-End : goal.returns-in-End
 unfolding row23
-returns-then-kind-eq3 c = rw (c.tested-then-kind-eq3.ensures, c.value-then-kind-eq3.ensures, c.if-kind-eq3.true)
+returns-in-End c = rw (c.tested-in-End.ensures, c.value-in-End.ensures, c.in-End.is)
 
-pub returns : goal.returns
-unfolding row23
-returns c =
-    let other : is_head c.args.kind ≡ false = c.if-kind.false in
-    rw (other, ne_eqb _ _ c.if-kind-eq3.false) (sym (row_holds 23 _ refl))
+pub returns-in_default : goal.returns-in_default
+unfolding row23 row
+returns-in_default c =
+    let other = kind_other c.args.kind in
+    rw (other Head1 c.in_default.not-Head1, other Head2 c.in_default.not-Head2, other End c.in_default.not-End)

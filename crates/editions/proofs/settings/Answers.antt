@@ -1,13 +1,13 @@
-use mathlib.Core.Path.{refl, sym}
-use borrow.Author.Tests.{ne_eqb}
-use Rattle.rows.proofs.ScanLaws.{row_holds}
+use Rattle.rows.specs.Scan.{row}
+use Rattle.frames.specs.declared.Kind.TheVariants.{Run}
+use Rattle.frames.proofs.KindLaws.{kind_other}
 use Rattle.editions.specs.Rows.{row25}
 use Rattle.editions.proofs.settings.Goals as goal
 
-pub returns-then-kind-eq5 : goal.returns-then-kind-eq5
+pub returns-in-Run : goal.returns-in-Run
 unfolding row25
-returns-then-kind-eq5 c = rw (c.tested.ensures, c.run_right.ensures, c.if-kind-eq5.true)
+returns-in-Run c = rw (c.tested.ensures, c.run_right.ensures, c.in-Run.is)
 
-pub returns : goal.returns
-unfolding row25
-returns c = rw (ne_eqb _ _ c.if-kind-eq5.false) (sym (row_holds 25 _ refl))
+pub returns-in_default : goal.returns-in_default
+unfolding row25 row
+returns-in_default c = rw (kind_other c.args.kind Run c.in_default.not-Run)
