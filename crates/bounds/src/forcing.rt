@@ -1,12 +1,13 @@
 // A forcing: the new elevation, then the new winds in two runs; its length and row 12.
 ghost use Rattle.std.specs.Prelude.{◌≡◌, ◌+◌, ◌*◌, ◌<◌, length};
+ghost use Rattle.rows.specs.Refusals.{answered};
 ghost use Rattle.rows.specs.Scan.{scan};
 ghost use Rattle.limits.specs.Limits.{row12_wind};
 ghost use Rattle.bounds.specs.Forcing.{wind_runs, is_forcing, wind_at, row12};
 
 use lists::slices;
 use quantities::Wind;
-use rows::Answer;
+use rows::{Asked, Row};
 
 // The runs of the winds: Wx', Wy'.
 pub(crate) const WIND_RUNS: usize = 2;
@@ -32,40 +33,24 @@ fn wind_at(n: usize, winds: &[f64], i: usize) -> Wind
     }
 }
 
-// Row 12 of the winds, where some node's is refused: the first of them.
-fn refused_wind(n: usize, winds: &[f64]) -> Answer
+// Row 12 of the winds: the first node whose wind is refused.
+fn winds_rows(n: usize, winds: &[f64]) -> Asked
     requires { length winds.now ≡ wind_runs * n }
-    ensures { result ≡ scan (λ i. row12_wind (wind_at n winds.now i) i) n }
+    ensures { answered result ≡ scan (λ i. row12_wind (wind_at n winds.now i) i) n }
 {
-    for i in 0..n {
-        if !limits::is_calm(wind_at(n, winds, i)) {
-            return rows::refuse(12, 2 + i);
-        }
-    }
-    rows::accept()
-}
-
-// Row 12 of the winds: the first node whose wind is refused. All are tested before the place is looked for, as in row 8.
-fn winds_rows(n: usize, winds: &[f64]) -> Answer
-    requires { length winds.now ≡ wind_runs * n }
-    ensures { result ≡ scan (λ i. row12_wind (wind_at n winds.now i) i) n }
-{
-    let mut all = true;
-    for i in 0..n {
-        all = all & limits::is_calm(wind_at(n, winds, i));
-    }
-    if all {
-        rows::accept()
-    } else {
-        refused_wind(n, winds)
-    }
+    rows::scan_tests(
+        n,
+        |i| limits::is_calm(wind_at(n, winds, i)),
+        Row::Forcing,
+        2,
+    )
 }
 
 // Row 12 of a forcing of n nodes: its elevation, then its winds.
-pub(crate) fn forcing_rows(n: usize, f: &[f64]) -> Answer
+pub(crate) fn forcing_rows(n: usize, f: &[f64]) -> Asked
     requires { length f.now ≡ 1 + wind_runs * n }
-    ensures { result ≡ row12 n f.now }
+    ensures { answered result ≡ row12 n f.now }
 {
-    let level = limits::elevation(f[0]);
-    rows::first(level, winds_rows(n, &f[1..]))
+    limits::elevation(f[0])?;
+    winds_rows(n, &f[1..])
 }

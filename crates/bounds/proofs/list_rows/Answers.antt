@@ -1,16 +1,30 @@
-use mathlib.Core.Path.{ap, ◌∙◌}
+use Prim.Native.Nat.{ℕ, ◌+◌, ◌*◌, ◌/◌}
+use mathlib.Core.Path.{◌≡◌, sym, ap, ◌∙◌}
 use mathlib.Core.Bool.{Bool}
 use lib.ListN.{length}
-use Rattle.rows.specs.declared.Answer.{Answer}
-use Rattle.rows.specs.Scan.{row, ◌then◌}
+use lib.Dec.{leb}
+use Rattle.rows.specs.Refusals.{answered}
+use Rattle.rows.specs.Scan.{row}
+use Rattle.rows.proofs.RefusalLaws.{stopped, went}
 use Rattle.bounds.specs.Forcing.{forcing_length, row14, list_rows}
 use Rattle.bounds.proofs.ForcingLaws.{few_forcings}
 use Rattle.bounds.proofs.list_rows.Goals as goal
 
+few : (l n : ℕ) → row (leb ((l + 4095) / 4096) (forcing_length n)) 14 0 ≡ row (leb l (4096 * forcing_length n)) 14 0
+few l n = ap (λ (b : Bool). row b 14 0) (few_forcings l (forcing_length n))
+
+pub returns-in_err-tested : goal.returns-in_err-tested
+unfolding list_rows row14
+returns-in_err-tested c = stopped _ _ _ c.from_residual.ensures.1 (c.in_err-tested.ensures ∙ few (length c.args.list.now) (length c.args.m.now.x.now))
+
+pub returns-in_err-asked : goal.returns-in_err-asked
+unfolding list_rows row14
+returns-in_err-asked c =
+    went (c.in_ok-tested.ensures ∙ few (length c.args.list.now) (length c.args.m.now.x.now))
+    (stopped _ _ _ c.from_residual-in_err-asked.ensures.1 (sym (ap answered c.in_err-asked.was)))
+
 pub returns : goal.returns
 unfolding list_rows row14
 returns c =
-    let a = c.args in
-    let few = c.tested-few.ensures ∙ ap (λ (b : Bool). row b 14 0) (few_forcings (length a.list.now) (forcing_length (length a.x.now))) in
-    let asked = c.first.ensures ∙ ap (λ (b : Answer). a.asked then b) c.tested-whole.ensures in
-    c.first-2.ensures ∙ (λ i. few i then asked i)
+    went (c.in_ok-tested.ensures ∙ few (length c.args.list.now) (length c.args.m.now.x.now))
+    (went (sym (ap answered c.in_ok-asked.was)) c.tested-2.ensures)
