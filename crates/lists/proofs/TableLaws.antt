@@ -9,7 +9,8 @@ use native.Mathlib.Numerals.{add-one}
 use mathlib.Core.Bool.{Bool, true, false, cond}
 use borrow.Author.Tests.{eqb-true, eqb-false}
 use lib.Dec.{eqb}
-use lib.ListN.{length, drop, get_or, set, length-set}
+use lib.ListN.{length, take, drop, get_or, set, length-set}
+use Rattle.std.specs.Prelude.{replicate}
 use lib.Seq.{ext_get_or, get_or-set_same, get_or-set_other, take-length, drop-length}
 use Rattle.lists.specs.Table.{table, copied}
 use Rattle.lists.specs.Private.{up_to}
@@ -121,6 +122,25 @@ module _ {A : Type 0} where
   up_table m f to n h g e =
       ap (λ (t : List A). t ++ drop n to) (table_same n f (λ i. get_or (table m f) i (f 0)) (λ i k. sym (get_d_table m f i (f 0) (omega arith))))
       ∙ up_copied (f 0) (table m f) to n h (rw (length_table m f) g) (rw (length_table m f) e)
+
+  -- as many places as the shorter has
+  pub cut_copied : (from to : List A) (n : ℕ) → n ≤ length to → n ≤ length from → (length to ≤ n) ⊎ (length from ≤ n) → take n from ++ drop n to ≡ copied from to
+  unfolding copied
+  cut_copied [] [] zero h g e = refl
+  cut_copied (x ∷ from) [] zero h g e = refl
+  cut_copied [] (y ∷ to) zero h g e = refl
+  cut_copied (x ∷ from) (y ∷ to) zero h g e = ⊎_elim (λ u. absurd (not-suc-le-zero u)) (λ u. absurd (not-suc-le-zero u)) e
+  cut_copied from [] (suc n) h g e = absurd (not-suc-le-zero h)
+  cut_copied [] (y ∷ to) (suc n) h g e = absurd (not-suc-le-zero g)
+  cut_copied (x ∷ from) (y ∷ to) (suc n) h g e =
+      ap (λ (t : List A). x ∷ t)
+      (cut_copied from to n (le_of_suc-le-suc h) (le_of_suc-le-suc g) (⊎_elim (λ u. inl (le_of_suc-le-suc u)) (λ u. inr (le_of_suc-le-suc u)) e))
+
+  -- n times the same
+  pub replicate_table : (n : ℕ) (v : A) → replicate n v ≡ table n (λ _. v)
+  unfolding table
+  replicate_table zero v = refl
+  replicate_table (suc n) v = ap (λ (t : List A). v ∷ t) (replicate_table n v)
 
   -- between lists of one length it is the whole
   pub copied_whole : (from to : List A) → length to ≡ length from → copied from to ≡ from

@@ -17,29 +17,20 @@ pub fn is_runs(long: usize, k: usize, n: usize) -> bool
 pub fn clear(s: &mut [f64])
     ensures { s.new ≡ zeros (length s.old) }
 {
-    let n = s.len();
-    for i in 0..n {
-        s[i] = 0.0;
-    }
+    s.fill(0.0);
 }
 
 // Every place 0.
 pub fn clear_whole(s: &mut [u64])
     ensures { s.new ≡ table (length s.old) (λ _. 0) }
 {
-    let n = s.len();
-    for i in 0..n {
-        s[i] = 0;
-    }
+    s.fill(0);
 }
 
 // As many places as both have.
 pub fn copy(to: &mut [f64], from: &[f64])
     ensures { to.new ≡ copied from.now to.old }
 {
-    let all = from.len();
-    let n = if all < to.len() { all } else { to.len() };
-    for i in 0..n {
-        to[i] = from[i];
-    }
+    let n = to.len().min(from.len());
+    to[..n].copy_from_slice(&from[..n]);
 }

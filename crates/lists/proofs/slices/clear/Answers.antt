@@ -1,30 +1,9 @@
-use mathlib.Core.Path.{◌≡◌, sym, ap, ◌∙◌}
-use native.Mathlib.Omega.{arith}
-use lib.ListN.{length}
+use mathlib.Core.Path.{◌∙◌}
+use borrow.Author.Rules.{rules}
 use lib.Ieee.{of_bits}
-use Rattle.rows.specs.Numbers.{plus0}
-use Rattle.lists.proofs.TableLaws.{up_none, up_more, up_length, up_all}
+use Rattle.lists.proofs.TableLaws.{replicate_table}
 use Rattle.lists.proofs.slices.clear.Goals as goal
-use Rattle.lists.proofs.slices.clear.Goals.{At-loop-i}
-
-long : (c : At-loop-i) → length c.loop-i.s ≡ length c.args.s.now
-long c = ap length c.loop-i.invariant.1 ∙ up_length _ _ _ (omega arith)
-
-pub loop-i-init : goal.loop-i-init
-loop-i-init c = (omega arith, sym (up_none _ _))
-
-pub bounds-s-i : goal.bounds-s-i
-bounds-s-i c = omega (arith, long (goal.at.bounds-s-i c).At-loop-i)
-
-pub loop-i-preserved : goal.loop-i-preserved
-unfolding of_bits
-loop-i-preserved c =
-    (omega arith, rw (c.loop-i.invariant.1, up_more c.loop-i.i (λ _. plus0) c.args.s.now c.loop-i-test.true))
-
-pub shape_of-s : goal.shape_of-s
-shape_of-s c = long (goal.at.shape_of-s c).At-loop-i
 
 pub returns : goal.returns
-returns c =
-    let done : c.loop-i.i ≡ length c.args.s.now = omega arith in
-    c.loop-i.invariant.1 ∙ rw done (up_all (λ _. plus0) c.args.s.now)
+unfolding of_bits
+returns c = c.fill.ensures.after (λ y e. search rules) ∙ replicate_table _ _
