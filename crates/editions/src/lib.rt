@@ -7,7 +7,7 @@ ghost use Rattle.rows.specs.Refusals.{answered};
 ghost use Rattle.frames.specs.Kinds.{kind_of};
 ghost use Rattle.frames.specs.Texts.{due};
 ghost use Rattle.faults.specs.Faults.{fault};
-ghost use Rattle.editions.specs.Lines.{edition1, edition2, edition_of, layout_at};
+ghost use Rattle.editions.specs.Lines.{edition_of, layout_at};
 ghost use Rattle.editions.specs.Editions.{lines_of, wind_in};
 ghost use Rattle.editions.specs.Rows.{row23, run_right, row25};
 
@@ -33,73 +33,26 @@ pub fn edition_of(text: &[u8]) -> Edition
     }
 }
 
-// A kind of line: its digits and its kind byte.
+// What is due at a line: its digits and its kind.
 #[derive(Clone, Copy)]
 pub struct LineKind {
     pub digits: usize,
     pub kind: Kind,
 }
 
-// What is due at line j of edition 1: head, nodes, end.
-fn due_in_one(n: usize, j: usize) -> LineKind
-    ensures { (result.digits ≡ due (layout_at edition1 n) j) × (kind_of result.kind ≡ (layout_at edition1 n j).kind) × (result.digits ≤ 104) }
-{
-    if j == 0 {
-        return LineKind {
-            digits: 56,
-            kind: Kind::Head1,
-        };
-    }
-    if j <= n {
-        LineKind {
-            digits: 72,
-            kind: Kind::Node1,
-        }
-    } else {
-        LineKind {
-            digits: 12,
-            kind: Kind::End,
-        }
-    }
-}
-
-// And of edition 2: head, line 05, nodes, end.
-fn due_in_two(n: usize, j: usize) -> LineKind
-    ensures { (result.digits ≡ due (layout_at edition2 n) j) × (kind_of result.kind ≡ (layout_at edition2 n j).kind) × (result.digits ≤ 104) }
-{
-    if j == 0 {
-        return LineKind {
-            digits: 24,
-            kind: Kind::Head2,
-        };
-    }
-    if j == 1 {
-        return LineKind {
-            digits: 88,
-            kind: Kind::Run,
-        };
-    }
-    if j - 2 < n {
-        LineKind {
-            digits: 104,
-            kind: Kind::Node2,
-        }
-    } else {
-        LineKind {
-            digits: 12,
-            kind: Kind::End,
-        }
-    }
-}
-
-// And of either.
+// What is due at line j of a save of n nodes: in edition 1 head, nodes, end; in edition 2 head, line 05, nodes, end.
 pub fn due(d: Edition, n: usize, j: usize) -> LineKind
     ensures { (result.digits ≡ due (layout_at (lines_of d) n) j) × (kind_of result.kind ≡ (layout_at (lines_of d) n j).kind) × (result.digits ≤ 104) }
 {
-    match d {
-        Edition::One => due_in_one(n, j),
-        Edition::Two => due_in_two(n, j),
-    }
+    let (digits, kind) = match (d, j) {
+        (Edition::One, 0) => (56, Kind::Head1),
+        (Edition::One, _) if j <= n => (72, Kind::Node1),
+        (Edition::Two, 0) => (24, Kind::Head2),
+        (Edition::Two, 1) => (88, Kind::Run),
+        (Edition::Two, _) if j - 2 < n => (104, Kind::Node2),
+        _ => (12, Kind::End),
+    };
+    LineKind { digits, kind }
 }
 
 // The wind of a node, from the fields of its line: edition 1 has none, and every node has the head's.
