@@ -39,23 +39,18 @@ fn leg_seen(its: Corners, j: usize, c: Corners) -> bool
 pub fn leg_rows(tri: &[u16]) -> Asked
     ensures { answered result ≡ scan (row6 tri.now) (length tri.now / 3) }
 {
-    let e = tri.len() / 3;
-    let mut t = 0;
-    'pairs: while t < e {
+    let mut answer = Ok(());
+    'pairs: for t in 0..tri.len() / 3 {
         let its = mesh::reading::corners_of(tri, t);
-        let mut s = 0;
-        while s < t {
+        for s in 0..t {
             let c = mesh::reading::corners_of(tri, s);
-            let mut j = 0;
-            while j < 3 {
+            for j in 0..3 {
                 if leg_seen(its, j, c) {
+                    answer = rows::refuse(Row::Leg, t);
                     break 'pairs;
                 }
-                j += 1;
             }
-            s += 1;
         }
-        t += 1;
     }
-    rows::tested(t == e, Row::Leg, t)
+    answer
 }
