@@ -1,7 +1,10 @@
 -- Document 02, #106: what a state has at the points of at most 64 gauges, after rows 1 to 10.
-use Rattle.std.specs.Prelude.{ℕ, cond, List, pos, ◌==◌, nat_lt, slice_index_or, Float}
+use Rattle.std.specs.Prelude.{ℕ, cond, List, Result, Ok, Err, pos, ◌==◌, nat_lt, slice_index_or, Float}
 use Rattle.rows.specs.declared.Answer.{Answer}
+use Rattle.rows.specs.declared.Refusal.{Refusal}
 use Rattle.rows.specs.Numbers.{plus0}
+use Rattle.rows.specs.Scan.{accepted}
+use Rattle.rows.specs.Refusals.{answered}
 use Rattle.lists.specs.Table.{table}
 use Rattle.lists.specs.Runs.{in_run}
 use Rattle.quantities.specs.declared.Parameters.{Parameters}
@@ -9,7 +12,7 @@ use Rattle.mesh.specs.Lent.{Mesh, N}
 use Rattle.bounds.specs.State.{run_rows}
 use Rattle.location.specs.declared.seeking.Point.{Point}
 use Rattle.location.specs.declared.Points.{Points}
-use Rattle.location.specs.declared.Sightings.{Sightings}
+use Rattle.location.specs.declared.Sightings as code
 use Rattle.location.specs.Location.{triangle_of, level_of}
 
 -- "for at most 64 gauges"
@@ -32,6 +35,12 @@ module _ (m : Mesh) (state : List Float) (q : Point) where
   abbrev pub level_in : Float
   level_in = level_of m.x m.y m.tri q (present m state)
 
+-- the rows' answer, and of each point its triangle and the elevation there
+pub record Sightings : Type 0 where
+  pub answer : Answer
+  pub triangle : List ℕ
+  pub level : List Float
+
 -- the triangle of each point, and the elevation there; 0 and +0 past the points that there are
 unfoldable pub seen : Answer → Mesh → List Float → Points → Sightings
 seen a m state ps = record {
@@ -42,6 +51,11 @@ seen a m state ps = record {
 
 unfoldable pub unseen : Answer → Sightings
 unseen a = record { answer = a; triangle = table most (λ _. 0); level = table most (λ _. plus0) }
+
+-- what a call saw
+abbrev pub sightings_of : Result code.Sightings Refusal → Sightings
+sightings_of (Ok s) = record { answer = accepted; triangle = s.triangle; level = s.level }
+sightings_of (Err r) = unseen (answered (Err r))
 
 -- asked: what the call tests before rows 1 to 10
 unfoldable pub survey_of : Answer → Mesh → Parameters → List Float → Points → Sightings

@@ -3,15 +3,18 @@
 
 pub mod seeking;
 
-ghost use Rattle.std.specs.Prelude.{◌≡◌, ◌*◌, length};
-ghost use Rattle.mesh.specs.Lent.{Mesh, mesh, N};
+ghost use Rattle.std.specs.Prelude.{◌≡◌, ◌*◌, Ok, length};
+ghost use Rattle.rows.specs.Scan.{accepted};
+ghost use Rattle.rows.specs.Refusals.{answered};
+ghost use Rattle.mesh.specs.Lent.{N, mesh_of};
 ghost use Rattle.mesh.specs.Private.{Shaped};
 ghost use Rattle.bounds.specs.State.{state_runs};
-ghost use Rattle.location.specs.Survey.{seen, unseen, survey_of};
+ghost use Rattle.location.specs.Survey.{sightings_of, seen, survey_of};
 
+use mesh::Mesh;
 use quantities::Parameters;
-use rows::Answer;
-use seeking::Point;
+use rows::{Asked, Refusal};
+use seeking::{Point, Sighting};
 
 // The points of at most 64 gauges: the first `count` of them.
 #[derive(Drop)]
@@ -21,76 +24,46 @@ pub struct Points {
     pub y: [i32; 64],
 }
 
-// The rows' answer, and of each point its triangle and the elevation there.
+// Of each point its triangle and the elevation there. Where no triangle contains it, its triangle is the number of triangles.
 #[derive(Drop)]
 pub struct Sightings {
-    pub answer: Answer,
     pub triangle: [usize; 64],
     pub level: [f64; 64],
 }
 
-// What a refused call has seen.
-pub fn nothing(answer: Answer) -> Sightings
-    ensures { result ≡ unseen answer }
-{
-    Sightings {
-        answer,
-        triangle: [0; 64],
-        level: [0.0; 64],
-    }
-}
-
 // Of each point its triangle and the elevation there.
-fn at_points(
-    answer: Answer,
-    ps: Points,
-    x: &[i32],
-    y: &[i32],
-    tri: &[u16],
-    h: &[f64],
-    kind: &[u8],
-    state: &[f64],
-) -> Sightings
-    requires { let m : Mesh = mesh x.now y.now tri.now h.now kind.now in Shaped m × (length state.now ≡ state_runs * N m) }
-    ensures { let m : Mesh = mesh x.now y.now tri.now h.now kind.now in result ≡ seen answer m state.now ps }
+fn at_points(ps: Points, m: &Mesh<'_>, state: &[f64]) -> Sightings
+    requires { Shaped (mesh_of m.now) × (length state.now ≡ state_runs * N (mesh_of m.now)) }
+    ensures { sightings_of (Ok result) ≡ seen accepted (mesh_of m.now) state.now ps }
 {
-    let east = ps.x;
-    let north = ps.y;
-    let mut triangle: [usize; 64] = [0; 64];
-    let mut level: [f64; 64] = [0.0; 64];
-    for g in 0..64 {
-        if g < ps.count {
-            let px = east[g];
-            let py = north[g];
-            let seen = seeking::sight(x, y, tri, state, Point { x: px, y: py });
-            triangle[g] = seen.triangle;
-            level[g] = seen.level;
-        }
+    let outside = Sighting {
+        triangle: m.tri.len() / 3,
+        level: 0.0,
+    };
+    let mut triangle = [0; 64];
+    let mut level = [0.0; 64];
+    for g in 0..usize::min(ps.count, 64) {
+        let at = Point {
+            x: ps.x[g],
+            y: ps.y[g],
+        };
+        let seen = seeking::sight(m, state, at).unwrap_or(outside);
+        triangle[g] = seen.triangle;
+        level[g] = seen.level;
     }
-    Sightings {
-        answer,
-        triangle,
-        level,
-    }
+    Sightings { triangle, level }
 }
 
 // What the call tests before, rows 1 to 10, and where they accept what is seen at the points.
 pub fn survey(
-    asked: Answer,
+    asked: Asked,
     ps: Points,
-    x: &[i32],
-    y: &[i32],
-    tri: &[u16],
-    h: &[f64],
-    kind: &[u8],
+    m: &Mesh<'_>,
     p: Parameters,
     state: &[f64],
-) -> Sightings
-    ensures { result ≡ survey_of asked (mesh x.now y.now tri.now h.now kind.now) p state.now ps }
+) -> Result<Sightings, Refusal>
+    ensures { sightings_of result ≡ survey_of (answered asked) (mesh_of m.now) p state.now ps }
 {
-    let answer = bounds::run_rows(asked, x, y, tri, h, kind, p, state);
-    if answer.number != 0 {
-        return nothing(answer);
-    }
-    at_points(answer, ps, x, y, tri, h, kind, state)
+    bounds::run_rows(asked, m, p, state)?;
+    Ok(at_points(ps, m, state))
 }

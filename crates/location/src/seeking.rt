@@ -4,10 +4,11 @@ ghost use Rattle.lists.specs.Runs.{in_run};
 ghost use Rattle.geometry.specs.Geometry.{east_of, north_of, sides_at, all_near, D};
 ghost use Rattle.mesh.specs.Private.{Sound};
 ghost use Rattle.bounds.specs.State.{state_runs};
-ghost use Rattle.location.specs.Private.{Short, for_second, for_third};
-ghost use Rattle.location.specs.Location.{weights, elevation, weights_at, contains, triangle_of, sighted};
+ghost use Rattle.location.specs.Private.{Short, for_second, for_third, where_inside};
+ghost use Rattle.location.specs.Location.{weights, elevation, weights_at, contains, triangle_of, is_inside, sighted};
 
 use geometry::{Places, WholeSides};
+use mesh::{Mesh, reading};
 
 // A point in whole metres.
 #[derive(Clone, Copy)]
@@ -82,35 +83,35 @@ fn weights_of(c: Places, p: Point) -> Weights
 }
 
 // The sub-areas of a point in triangle t.
-fn weights_at(x: &[i32], y: &[i32], tri: &[u16], p: Point, t: usize) -> Weights
-    requires { (t < length tri.now / 3) × Sound x.now y.now tri.now t }
-    ensures { result ≡ weights_at x.now y.now tri.now p t }
+fn weights_at(m: &Mesh<'_>, p: Point, t: usize) -> Weights
+    requires { (t < length m.now.tri.now / 3) × Sound m.now.x.now m.now.y.now m.now.tri.now t }
+    ensures { result ≡ weights_at m.now.x.now m.now.y.now m.now.tri.now p t }
 {
-    let c = mesh::reading::corners_at(tri, t);
-    weights_of(mesh::reading::places_at(x, y, c), p)
+    let c = reading::corners_at(m, t);
+    weights_of(reading::places_at(m, c), p)
 }
 
 // Whether triangle t contains the point: none of its sub-areas is negative.
-fn contains(x: &[i32], y: &[i32], tri: &[u16], p: Point, t: usize) -> bool
-    requires { (t < length tri.now / 3) × Sound x.now y.now tri.now t }
-    ensures { result ≡ contains x.now y.now tri.now p t }
+fn contains(m: &Mesh<'_>, p: Point, t: usize) -> bool
+    requires { (t < length m.now.tri.now / 3) × Sound m.now.x.now m.now.y.now m.now.tri.now t }
+    ensures { result ≡ contains m.now.x.now m.now.y.now m.now.tri.now p t }
 {
-    let w = weights_at(x, y, tri, p, t);
+    let w = weights_at(m, p, t);
     (0 <= w.w1) & (0 <= w.w2) & (0 <= w.w3)
 }
 
-// The lowest-numbered triangle that contains the point; the number of triangles where none does.
-fn locate(x: &[i32], y: &[i32], tri: &[u16], p: Point) -> usize
-    requires { (t : ℕ) → t < length tri.now / 3 → Sound x.now y.now tri.now t }
-    ensures { result ≡ triangle_of x.now y.now tri.now p }
+// The lowest-numbered triangle that contains the point.
+fn locate(m: &Mesh<'_>, p: Point) -> Option<usize>
+    requires { (t : ℕ) → t < length m.now.tri.now / 3 → Sound m.now.x.now m.now.y.now m.now.tri.now t }
+    ensures { result ≡ where_inside (is_inside m.now.x.now m.now.y.now m.now.tri.now p) (triangle_of m.now.x.now m.now.y.now m.now.tri.now p) }
 {
-    let e = tri.len() / 3;
+    let e = m.tri.len() / 3;
     for t in 0..e {
-        if contains(x, y, tri, p, t) {
-            return t;
+        if contains(m, p, t) {
+            return Some(t);
         }
     }
-    e
+    None
 }
 
 // The gauge elevation of a point with these sub-areas, with elevations z1, z2 and z3 at the corners.
@@ -132,25 +133,20 @@ fn present(n: usize, state: &[f64], i: usize) -> f64
 }
 
 // The triangle of a point, and the elevation there.
-pub(crate) fn sight(x: &[i32], y: &[i32], tri: &[u16], state: &[f64], p: Point) -> Sighting
-    requires state_len { length state.now ≡ state_runs * length x.now }
-    requires by_index { (t : ℕ) → t < length tri.now / 3 → Sound x.now y.now tri.now t }
-    ensures { result ≡ sighted x.now y.now tri.now p (in_run (length x.now) 1 state.now) }
+pub(crate) fn sight(m: &Mesh<'_>, state: &[f64], p: Point) -> Option<Sighting>
+    requires state_len { length state.now ≡ state_runs * length m.now.x.now }
+    requires by_index { (t : ℕ) → t < length m.now.tri.now / 3 → Sound m.now.x.now m.now.y.now m.now.tri.now t }
+    ensures { result ≡ where_inside (is_inside m.now.x.now m.now.y.now m.now.tri.now p) (sighted m.now.x.now m.now.y.now m.now.tri.now p (in_run (length m.now.x.now) 1 state.now)) }
 {
-    let n = x.len();
-    let t = locate(x, y, tri, p);
-    if t < tri.len() / 3 {
-        let w = weights_at(x, y, tri, p, t);
-        let c = mesh::reading::corners_at(tri, t);
-        let z1 = present(n, state, c.n1);
-        let z2 = present(n, state, c.n2);
-        let z3 = present(n, state, c.n3);
-        let level = elevation(w, z1, z2, z3);
-        Sighting { triangle: t, level }
-    } else {
-        Sighting {
-            triangle: t,
-            level: 0.0,
-        }
-    }
+    let n = m.x.len();
+    let triangle = locate(m, p)?;
+    let w = weights_at(m, p, triangle);
+    let c = reading::corners_at(m, triangle);
+    let z1 = present(n, state, c.n1);
+    let z2 = present(n, state, c.n2);
+    let z3 = present(n, state, c.n3);
+    Some(Sighting {
+        triangle,
+        level: elevation(w, z1, z2, z3),
+    })
 }

@@ -1,16 +1,18 @@
-use Rattle.std.proofs.Common.{◌∙◌}
-use Rattle.rows.proofs.ScanLaws.{same_number}
+use Rattle.std.proofs.Common.{refl, ap, ◌∙◌}
+use Rattle.rows.proofs.RefusalLaws.{refuses, accepts}
 use Rattle.bounds.proofs.StateLaws.{accepted_run}
-use Rattle.location.proofs.SightLaws.{survey_refused, survey_accepted}
+use Rattle.location.specs.Survey.{sightings_of}
+use Rattle.location.proofs.SightLaws.{handed_back, survey_refused, survey_accepted}
 use Rattle.location.proofs.survey.Goals as goal
 
-pub returns-then-answer-ne0 : goal.returns-then-answer-ne0
-returns-then-answer-ne0 c = c.nothing.ensures ∙ survey_refused _ _ _ _ _ c.run_rows-answer.ensures c.if-answer-ne0.true
+pub returns-in_err-run_rows : goal.returns-in_err-run_rows
+returns-in_err-run_rows c =
+    ap sightings_of (handed_back _ _ c.from_residual.ensures.1)
+    ∙ survey_refused _ _ _ _ _ c.in_err-run_rows.ensures (refuses c.in_err-run_rows.field-0.0 refl)
 
 pub at_points-requires : goal.at_points-requires
-at_points-requires c =
-    let a = accepted_run _ _ _ _ (same_number c.run_rows-answer.ensures c.if-answer-ne0.false) in
-    (a.shape, a.long)
+at_points-requires c = let a = accepted_run _ _ _ _ (accepts c.in_ok-run_rows.ensures) in (a.shape, a.long)
 
 pub returns : goal.returns
-returns c = c.at_points.ensures ∙ survey_accepted _ _ _ _ _ c.run_rows-answer.ensures c.if-answer-ne0.false
+returns c =
+    c.at_points.ensures ∙ survey_accepted _ _ _ _ _ c.in_ok-run_rows.ensures refl

@@ -1,6 +1,7 @@
 use Rattle.std.proofs.Common.{sym, ◌∙◌, arith, below_none, below_more}
 use Rattle.location.specs.Location.{triangle_of}
-use Rattle.location.proofs.LowestLaws.{lowest_hit, lowest_none}
+use Rattle.location.proofs.LowestLaws.{lowest_hit}
+use Rattle.location.proofs.SightLaws.{found_there, found_nowhere, is_there, is_nowhere}
 use Rattle.location.proofs.seeking.locate.Goals as goal
 
 pub contains-requires : goal.contains-requires
@@ -9,15 +10,15 @@ contains-requires c = (c.loop-t-test.true, c.requires _ c.loop-t-test.true)
 pub returns-then-contains : goal.returns-then-contains
 unfolding triangle_of
 returns-then-contains c =
-    lowest_hit _ _ _ c.loop-t-test.true c.loop-t.invariant (sym c.contains.ensures ∙ c.if-contains.true)
+    let lowest = lowest_hit _ _ _ c.loop-t-test.true c.loop-t.invariant (sym c.contains.ensures ∙ c.if-contains.true) in
+    found_there (is_there _ _ _ _ lowest c.loop-t-test.true) lowest
 
 pub loop-t-preserved : goal.loop-t-preserved
 loop-t-preserved c =
     below_more _ _ c.loop-t.invariant (sym c.contains.ensures ∙ c.if-contains.false)
 
 pub returns : goal.returns
-unfolding triangle_of
-returns c = lowest_none _ _ (λ k h. c.loop-t.invariant k (omega arith))
+returns c = found_nowhere _ (is_nowhere _ _ _ _ (λ k h. c.loop-t.invariant k (omega arith)))
 
 pub loop-t-init : goal.loop-t-init
 loop-t-init c = below_none _

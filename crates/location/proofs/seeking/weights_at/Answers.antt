@@ -16,4 +16,4 @@ returns c =
     let a = c.args in
     c.weights_of.ensures
     ∙ ap (λ (v : Places). weights (east_of v) (north_of v) a.p)
-    (c.places_at.ensures ∙ ap (places_of a.x.now a.y.now) (corners_read _ _ c.requires.0 c.corners_at-c.ensures))
+    (c.places_at.ensures ∙ ap (places_of a.m.now.x.now a.m.now.y.now) (corners_read _ _ c.requires.0 c.corners_at-c.ensures))
