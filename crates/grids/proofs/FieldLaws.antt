@@ -4,7 +4,7 @@ use mathlib.Core.Bool.{and-true, and-false, and_assoc}
 use native.Mathlib.Nat.{pow-le-pow_right}
 use Rattle.rows.proofs.ScanLaws.{both_left, both_right}
 use Rattle.grids.specs.Numbers.{is_digit, only_digits, is_number, number_from, number_of, starts_with, without, is_minus, unsigned, is_whole, before_first, after_first, has, whole_digits, decimals, is_depth, is_short, size_of}
-use Rattle.grids.specs.Private.{unspaced, digits_of, is_end, most, capped_from, capped, GapSeen, DigitsSeen, closed, first, NumberSeen, WholeSeen, DepthSeen}
+use Rattle.grids.specs.Private.{unspaced, digits_of, is_end, most, capped_from, capped, GapSeen, DigitsSeen, closed, first, Seen, NumberSeen, WholeSeen, DepthSeen}
 use Rattle.grids.specs.declared.scanning.Gap.{Gap}
 use Rattle.grids.specs.declared.scanning.Digits.{Digits}
 use Rattle.grids.proofs.LeftLaws.{digit_range, ends_front, starts_front, past_left}
@@ -359,41 +359,49 @@ module _ (t text : List ℕ) (start : ℕ) (skipped : drop start text ≡ unspac
       ap (λ (n : ℕ). ltb 0 n) (found_places found) ∙ ap (λ (u : List ℕ). ltb 0 (length (digits_of u))) (found_after found) in
       λ i. (d i && (not (m i) || k i)) && (ends ∙ ap is_end (found_left found)) i
 
-  pub depth_seen : (p e minus : Bool) (whole parts size : ℕ) → p ≡ starts_with 46 (drop mid text) → e ≡ is_end (drop end text)
-      → minus ≡ starts_with 45 (drop start text) → whole ≡ capped_from 0 (digits_of (drop from text)) → parts ≡ capped_from 0 (digits_of (drop point text))
-      → ((leb (mid - from) 9 && leb (end - point) 3) ≡ true → size ≡ whole * 1000 + parts * 10 ^ (3 - (end - point))) → size ≤ 2 ^ 53
-      → DepthSeen t
-      (record {
-        fine = (ltb 0 (mid - from) && (not p || ltb 0 (end - point))) && e;
-        minus = minus;
-        short = leb (mid - from) 9 && leb (end - point) 3;
-        size = size;
-        next = end;
-      }) (drop end text)
-  unfolding is_depth is_short size_of
-  depth_seen p e minus whole parts size pointed ends signed is_whole_lem is-parts sized small =
-      let u = drop from text in
-      let fine = read p e pointed ends in
-      let run = decimal_run u in
-      let words : word u ≡ unsigned (word (unspaced t)) = ap word its_digits ∙ sym (sign (unspaced t)).digits in
-      let its_whole : is_read u ≡ true → whole_digits (first t) ≡ digits_of u = λ r. ap (before_first 46) (sym its_word) ∙ run.digits r in
-      let its_decimals : is_read u ≡ true → decimals (first t) ≡ digits_of (drop point text) =
-      λ r. ap (after_first 46) (sym its_word) ∙ run.decimals r ∙ ap digits_of (sym (found_after found)) in
-      let few : is_read u ≡ true → mid - from ≡ length (whole_digits (first t)) = λ r. found_digits found ∙ ap length (sym (its_whole r)) in
-      let places : is_read u ≡ true → end - point ≡ length (decimals (first t)) = λ r. found_places found ∙ ap length (sym (its_decimals r)) in
-      record {
-        seen =
-            seen_word t is_depth no_depth (fine ∙ run.fine ∙ ap is_pointed words)
-            (λ f. found_left found ∙ run.rest (sym fine ∙ f) ∙ ap beyond its_digits ∙ sym (sign (unspaced t)).rest);
-        minus = λ f. signed ∙ ap is_minus skipped ∙ sym (minus_word (unspaced t)) ∙ ap is_minus (sym (first_word t));
-        short = λ f. λ i. leb (few (sym fine ∙ f) i) 9 && leb (places (sym fine ∙ f) i) 3;
-        size = λ f s.
-            let r = sym fine ∙ f in
-            let nine = leb-true (mid - from) 9 (both_left (leb (mid - from) 9) (leb (end - point) 3) s) in
-            let three = leb-true (end - point) 3 (both_right (leb (mid - from) 9) (leb (end - point) 3) s) in
-            let a : whole ≡ number_of (whole_digits (first t)) = run_exact u is_whole_lem (omega (arith, found_digits found, nine)) ∙ ap number_of (sym (its_whole r)) in
-            let b : parts ≡ number_of (decimals (first t)) =
-            run_exact (drop point text) is-parts (omega (arith, found_places found, three)) ∙ ap number_of (sym (its_decimals r)) in
-            sized s ∙ (λ i. a i * 1000 + b i * 10 ^ (3 - places r i));
-        small = small;
-      }
+  module _ (p e : Bool) (pointed : p ≡ starts_with 46 (drop mid text)) (ends : e ≡ is_end (drop end text)) where
+    abbrev fine : Bool
+    fine = (ltb 0 (mid - from) && (not p || ltb 0 (end - point))) && e
+
+    words : word (drop from text) ≡ unsigned (word (unspaced t))
+    words = ap word its_digits ∙ sym (sign (unspaced t)).digits
+
+    depth_field : Seen is_depth t fine (drop end text)
+    unfolding is_depth
+    depth_field =
+        let run = decimal_run (drop from text) in
+        let here = read p e pointed ends in
+        seen_word t is_depth no_depth (here ∙ run.fine ∙ ap is_pointed words)
+        (λ f. found_left found ∙ run.rest (sym here ∙ f) ∙ ap beyond its_digits ∙ sym (sign (unspaced t)).rest)
+
+    pub depth_none : fine ≡ false → false ≡ is_depth (first t)
+    depth_none off = sym off ∙ depth_field.holds
+
+    pub depth_seen : fine ≡ true → (minus : Bool) (whole parts size : ℕ) → minus ≡ starts_with 45 (drop start text)
+        → whole ≡ capped_from 0 (digits_of (drop from text)) → parts ≡ capped_from 0 (digits_of (drop point text))
+        → ((leb (mid - from) 9 && leb (end - point) 3) ≡ true → size ≡ whole * 1000 + parts * 10 ^ (3 - (end - point))) → size ≤ 2 ^ 53
+        → DepthSeen t (record { minus = minus; short = leb (mid - from) 9 && leb (end - point) 3; size = size; next = end }) (drop end text)
+    unfolding is_short size_of
+    depth_seen on minus whole parts size signed is_whole_lem is-parts sized small =
+        let u = drop from text in
+        let run = decimal_run u in
+        let r : is_read u ≡ true = sym (read p e pointed ends) ∙ on in
+        let its_whole : whole_digits (first t) ≡ digits_of u = ap (before_first 46) (sym its_word) ∙ run.digits r in
+        let its_decimals : decimals (first t) ≡ digits_of (drop point text) =
+        ap (after_first 46) (sym its_word) ∙ run.decimals r ∙ ap digits_of (sym (found_after found)) in
+        let few : mid - from ≡ length (whole_digits (first t)) = found_digits found ∙ ap length (sym its_whole) in
+        let places : end - point ≡ length (decimals (first t)) = found_places found ∙ ap length (sym its_decimals) in
+        record {
+          seen = rw on at depth_field;
+          minus = signed ∙ ap is_minus skipped ∙ sym (minus_word (unspaced t)) ∙ ap is_minus (sym (first_word t));
+          short = λ i. leb (few i) 9 && leb (places i) 3;
+          size = λ s.
+              let nine = leb-true (mid - from) 9 (both_left (leb (mid - from) 9) (leb (end - point) 3) s) in
+              let three = leb-true (end - point) 3 (both_right (leb (mid - from) 9) (leb (end - point) 3) s) in
+              let a : whole ≡ number_of (whole_digits (first t)) =
+              run_exact u is_whole_lem (omega (arith, found_digits found, nine)) ∙ ap number_of (sym its_whole) in
+              let b : parts ≡ number_of (decimals (first t)) =
+              run_exact (drop point text) is-parts (omega (arith, found_places found, three)) ∙ ap number_of (sym its_decimals) in
+              sized s ∙ (λ i. a i * 1000 + b i * 10 ^ (3 - places i));
+          small = small;
+        }

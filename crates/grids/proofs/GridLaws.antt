@@ -1,9 +1,13 @@
 -- The rows of a text put together from its lines, and what is known of each line where all of them accept.
 use Rattle.std.proofs.Common.{◌≡◌, ℕ, suc, ◌+◌, ◌-◌, ◌*◌, ◌/◌, ◌%◌, ◌<◌, Bool, true, false, ◌&&◌, eqb, ltb, List, [], ◌∷◌, length, ℤ, sym, refl, ap, ◌∙◌, arith, lt-ltb, eq-eqb, ne_eqb, eqb-true}
 use lib.Ieee.{Float}
+use Rattle.std.specs.Prelude.{Err, IsErrAnd}
 use Rattle.rows.specs.declared.Answer.{Answer}
-use Rattle.rows.specs.Scan.{row, scan}
-use Rattle.rows.proofs.ScanLaws.{row_passed, then_first, then_rest, scan_clean, scan_same, same_number, other_number, both_left, both_right}
+use Rattle.rows.specs.declared.Refusal.{Refusal}
+use Rattle.rows.specs.Scan.{accepted, row, scan}
+use Rattle.rows.specs.Refusals.{answered}
+use Rattle.rows.proofs.ScanLaws.{row_passed, then_first, then_rest, scan_clean, scan_same, both_left, both_right}
+use Rattle.rows.proofs.RefusalLaws.{Asked, stands, refuses, accepts}
 use Rattle.lists.specs.Table.{table}
 use Rattle.lists.proofs.TableLaws.{table_same}
 use Rattle.grids.specs.Text.{cut, pieces_of, lines_of, line_of, field_of}
@@ -132,10 +136,12 @@ module _ (r : Grid) (t : List ℕ) (ok : (grid_answer r t).number ≡ 0) where
   }
 
 -- ---- the outcome
-pub read_done : (r : Grid) (t : List ℕ) {a : Answer} {g : Grid} → a ≡ grid_answer r t → a.number ≡ 0 → g ≡ grid_of t → read_out a g ≡ read_of r t
+pub read_done : (r : Grid) (t : List ℕ) {g : Grid} → accepted ≡ grid_answer r t → g ≡ grid_of t → read_out accepted g ≡ read_of r t
 unfolding read_of
-read_done r t e z f = rw (eq-eqb (grid_answer r t).number 0 (same_number e z)) (λ i. read_out (e i) (f i))
+read_done r t e f = rw (eq-eqb (grid_answer r t).number 0 (accepts e)) (λ i. read_out (e i) (f i))
 
-pub read_refused : (r : Grid) (t : List ℕ) {a : Answer} → a ≡ grid_answer r t → (a.number ≡ 0 → ⊥) → read_out a r ≡ read_of r t
+pub read_refused : (r : Grid) (t : List ℕ) (q : Asked) (x : Refusal) → IsErrAnd q (λ y. y ≡ x) → answered (Err x) ≡ grid_answer r t
+    → read_out (answered q) r ≡ read_of r t
 unfolding read_of
-read_refused r t e z = rw (ne_eqb (grid_answer r t).number 0 (other_number e z)) (λ i. read_out (e i) r)
+read_refused r t q x e is =
+    rw (ne_eqb (grid_answer r t).number 0 (refuses x is)) (ap (λ (a : Answer). read_out a r) (stands q x e is))

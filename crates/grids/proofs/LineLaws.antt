@@ -1,18 +1,15 @@
 -- A line that is read field by field has exactly the fields that it is to have.
-use Rattle.std.proofs.Common.{◌≡◌, ℕ, suc, ◌+◌, ◌^◌, ◌<◌, ◌≤◌, Bool, true, false, ◌&&◌, eqb, List, [], ◌∷◌, length, get_or, drop, sym, refl, ap, ◌∙◌, arith, drop_of_length-le, drop-drop, eq-eqb, ne_eqb, eqb-true}
+use Rattle.std.proofs.Common.{◌≡◌, ℕ, suc, ◌+◌, ◌<◌, ◌≤◌, Bool, true, false, ◌&&◌, eqb, List, [], ◌∷◌, length, get_or, drop, sym, refl, ap, ◌∙◌, arith, drop_of_length-le, drop-drop, eq-eqb, ne_eqb, eqb-true}
 use borrow.Author.Tests.{eqb-false}
 use Rattle.rows.proofs.ScanLaws.{both_left, both_right}
 use Rattle.grids.specs.Text.{pieces_of, filled, fields_of, exactly}
-use Rattle.grids.specs.Numbers.{number_of, starts_with, is_minus, unsigned, before_first, after_first, is_short, size_of}
+use Rattle.grids.specs.Numbers.{number_of, is_number, starts_with, is_minus, unsigned, is_whole, before_first, after_first, is_depth, is_short, size_of}
 use Rattle.grids.specs.Grid.{count_tests, node_tests, is_three, triangle_tests}
-use Rattle.grids.specs.Private.{unspaced, is_end, is_line_end, most, capped, GapSeen, present, first, its, Seen, NumberSeen, WholeSeen, DepthSeen, LineSeen, CountsSeen, NodeSeen, TriangleSeen}
+use Rattle.grids.specs.Private.{unspaced, is_end, is_line_end, most, capped, GapSeen, present, first, its, Seen, NumberSeen, WholeSeen, DepthSeen, LineSeen, NoLine, CountsSeen, NodeSeen, TriangleSeen}
 use Rattle.grids.specs.declared.scanning.Gap.{Gap}
-use Rattle.grids.specs.declared.entries.Counts.{Counts}
-use Rattle.grids.specs.declared.entries.NodeLine.{NodeLine}
-use Rattle.grids.specs.declared.entries.TriangleLine.{TriangleLine}
 use Rattle.grids.specs.declared.fields.Depth.{Depth}
 use Rattle.grids.proofs.LeftLaws.{line_front}
-use Rattle.grids.proofs.WordLaws.{never, spaces_fields, spaces_line, spaces_gone, word_more, word_none}
+use Rattle.grids.proofs.WordLaws.{spaces_fields, spaces_line, spaces_gone, word_more, word_none}
 
 -- ---- the line's end
 end_is : (u : List ℕ) → starts_with 32 u ≡ false → is_end u ≡ is_line_end u
@@ -103,11 +100,6 @@ pub not_there : (text : List ℕ) (from : ℕ) → length text ≤ from → (is 
 unfolding exactly before_first pieces_of filled
 not_there text from l is tests = rw (drop_of_length-le text l)
 
--- a line that was left early
-module _ {tests : List (List ℕ → Bool)} {t : List ℕ} {fine : Bool} (off : fine ≡ false) (out : false ≡ exactly tests (fields_of (present t))) (next : List ℕ) where
-  line_left : LineSeen tests t fine next
-  line_left = record { holds = off ∙ out; after = λ f. absurd (never (sym f ∙ off)) }
-
 -- ---- numbers up to the limit compare as they are
 pub capped_is : (v k : ℕ) → k < most → eqb (capped v) k ≡ eqb v k
 capped_is v k l = go (eqb v k) refl
@@ -134,21 +126,23 @@ numbered f = capped (number_of f)
 
 module _ {t l m : List ℕ} {e n : ℕ} {e-fine n-fine : Bool} (first : NumberSeen t e-fine e l) (second : NumberSeen l n-fine n m) {ends : Bool} {next : List ℕ}
     (end : LineSeen [] m ends next) where
-  pub counts_line : (at : ℕ) → CountsSeen t (record { fine = e-fine && (n-fine && ends); e = e; n = n; next = at }) next
-  counts_line at = record {
-    seen = line_more first.seen (line_more second.seen end);
-    e = λ f. first.value_is (both_left e-fine (n-fine && ends) f);
-    n = λ f.
-        second.value_is (both_left n-fine ends (both_right e-fine (n-fine && ends) f))
-        ∙ ap numbered (sym (its_more first.seen (both_left e-fine (n-fine && ends) f) 0));
-  }
+  counts_fields : LineSeen count_tests t (e-fine && (n-fine && ends)) next
+  counts_fields = line_more first.seen (line_more second.seen end)
 
-pub counts_none : {t : List ℕ} (r : Counts) (next : List ℕ) → r.fine ≡ false → false ≡ exactly count_tests (fields_of (present t)) → CountsSeen t r next
-counts_none r next off out = record { seen = line_left off out next; e = λ f. absurd (never (sym f ∙ off)); n = λ f. absurd (never (sym f ∙ off)) }
+  pub counts_none : (e-fine && (n-fine && ends)) ≡ false → NoLine count_tests t
+  counts_none off = sym off ∙ counts_fields.holds
 
-module _ {t r₁ r₂ r₃ r₄ : List ℕ} {n x y : ℕ} {n-fine x-fine x_minus y-fine y_minus : Bool} {h : Depth} (n_seen : NumberSeen t n-fine n r₁) (n-is : n-fine ≡ true)
-    (x_seen : WholeSeen r₁ x-fine x_minus x r₂) (x-is : x-fine ≡ true) (y_seen : WholeSeen r₂ y-fine y_minus y r₃) (y-is : y-fine ≡ true)
-    (h-seen : DepthSeen r₃ h r₄) {ends : Bool} {next : List ℕ} (end : LineSeen [] r₄ ends next) where
+  pub counts_line : (e-fine && (n-fine && ends)) ≡ true → (at : ℕ) → CountsSeen t (record { e = e; n = n; next = at }) next
+  counts_line f at =
+      let e-is = both_left e-fine (n-fine && ends) f in
+      record {
+        seen = rw f at counts_fields;
+        e = first.value_is e-is;
+        n = second.value_is (both_left n-fine ends (both_right e-fine (n-fine && ends) f)) ∙ ap numbered (sym (its_more first.seen e-is 0));
+      }
+
+module _ {t r₁ r₂ r₃ : List ℕ} {n x y : ℕ} {n-fine x-fine x_minus y-fine y_minus : Bool} (n_seen : NumberSeen t n-fine n r₁) (n-is : n-fine ≡ true)
+    (x_seen : WholeSeen r₁ x-fine x_minus x r₂) (x-is : x-fine ≡ true) (y_seen : WholeSeen r₂ y-fine y_minus y r₃) (y-is : y-fine ≡ true) where
   node_second : first r₁ ≡ its t 1
   node_second = sym (its_more n_seen.seen n-is 0)
 
@@ -158,35 +152,31 @@ module _ {t r₁ r₂ r₃ r₄ : List ℕ} {n x y : ℕ} {n-fine x-fine x_minus
   node_fourth : first r₃ ≡ its t 3
   node_fourth = sym (its_more n_seen.seen n-is 2 ∙ its_more x_seen.seen x-is 1 ∙ its_more y_seen.seen y-is 0)
 
-  pub node_line_lem : (at : ℕ)
-      → NodeSeen t (record { fine = h.fine && ends; number = n; x = record { minus = x_minus; size = x }; y = record { minus = y_minus; size = y }; h = h; next = at }) next
-  node_line_lem at = record {
-    seen = line_on n_seen.seen n-is (line_on x_seen.seen x-is (line_on y_seen.seen y-is (line_more h-seen.seen end)));
-    number = λ f. n_seen.value_is n-is;
-    x_minus = λ f. x_seen.minus_is x-is ∙ ap is_minus node_second;
-    x_size = λ f. x_seen.size_is x-is ∙ ap (λ (g : List ℕ). numbered (unsigned g)) node_second;
-    y_minus = λ f. y_seen.minus_is y-is ∙ ap is_minus node_third;
-    y_size = λ f. y_seen.size_is y-is ∙ ap (λ (g : List ℕ). numbered (unsigned g)) node_third;
-    h_minus = λ f. h-seen.minus (both_left h.fine ends f) ∙ ap is_minus node_fourth;
-    h_short = λ f. h-seen.short (both_left h.fine ends f) ∙ ap is_short node_fourth;
-    h_size = λ f s. h-seen.size (both_left h.fine ends f) s ∙ ap size_of node_fourth;
-    h_small = h-seen.small;
-  }
+  pub no_depth_there : false ≡ is_depth (first r₃) → NoLine node_tests t
+  no_depth_there off =
+      let out = sym (exactly_not is_depth [] (fields_of (present r₃)) (sym off)) in
+      later n_seen.seen n-is _ (later x_seen.seen x-is _ (later y_seen.seen y-is _ out))
 
-pub node_none : {t : List ℕ} (r : NodeLine) (next : List ℕ) → (r.fine ≡ false) × (r.h.size ≤ 2 ^ 53) → false ≡ exactly node_tests (fields_of (present t)) → NodeSeen t r next
-node_none r next off out =
-    let never_fine : r.fine ≡ true → ⊥ = λ f. never (sym f ∙ off.0) in
-    record {
-      seen = line_left off.0 out next;
-      number = λ f. absurd (never_fine f);
-      x_minus = λ f. absurd (never_fine f);
-      x_size = λ f. absurd (never_fine f);
-      y_minus = λ f. absurd (never_fine f);
-      y_size = λ f. absurd (never_fine f);
-      h_minus = λ f. absurd (never_fine f);
-      h_short = λ f. absurd (never_fine f);
-      h_size = λ f. absurd (never_fine f);
-      h_small = off.1;
+  module _ {h : Depth} {r₄ : List ℕ} (h-seen : DepthSeen r₃ h r₄) {ends : Bool} {next : List ℕ} (end : LineSeen [] r₄ ends next) where
+    node_fields : LineSeen node_tests t ends next
+    node_fields = line_on n_seen.seen n-is (line_on x_seen.seen x-is (line_on y_seen.seen y-is (line_on h-seen.seen refl end)))
+
+    pub node_none : ends ≡ false → NoLine node_tests t
+    node_none off = sym off ∙ node_fields.holds
+
+    pub node_line_lem : ends ≡ true → (at : ℕ)
+        → NodeSeen t (record { number = n; x = record { minus = x_minus; size = x }; y = record { minus = y_minus; size = y }; h = h; next = at }) next
+    node_line_lem f at = record {
+      seen = rw f at node_fields;
+      number = n_seen.value_is n-is;
+      x_minus = x_seen.minus_is x-is ∙ ap is_minus node_second;
+      x_size = x_seen.size_is x-is ∙ ap (λ (g : List ℕ). numbered (unsigned g)) node_second;
+      y_minus = y_seen.minus_is y-is ∙ ap is_minus node_third;
+      y_size = y_seen.size_is y-is ∙ ap (λ (g : List ℕ). numbered (unsigned g)) node_third;
+      h_minus = h-seen.minus ∙ ap is_minus node_fourth;
+      h_short = h-seen.short ∙ ap is_short node_fourth;
+      h_size = λ s. h-seen.size s ∙ ap size_of node_fourth;
+      h_small = h-seen.small;
     }
 
 module _ {t r₁ r₂ r₃ r₄ r₅ : List ℕ} {n k p q r : ℕ} {n-fine k-fine p-fine q-fine r-fine : Bool} (n_seen : NumberSeen t n-fine n r₁) (n-is : n-fine ≡ true)
@@ -195,37 +185,26 @@ module _ {t r₁ r₂ r₃ r₄ r₅ : List ℕ} {n k p q r : ℕ} {n-fine k-fin
   abbrev corners_fine : Bool
   corners_fine = p-fine && (q-fine && (r-fine && ends))
 
-  p_is : corners_fine ≡ true → p-fine ≡ true
-  p_is f = both_left p-fine (q-fine && (r-fine && ends)) f
+  triangle_fields : LineSeen triangle_tests t corners_fine next
+  triangle_fields = line_on n_seen.seen n-is (line_on (three_seen k_seen) k-is (line_more p-seen.seen (line_more q-seen.seen (line_more r-seen.seen end))))
 
-  q_is : corners_fine ≡ true → q-fine ≡ true
-  q_is f = both_left q-fine (r-fine && ends) (both_right p-fine (q-fine && (r-fine && ends)) f)
-
-  r_is : corners_fine ≡ true → r-fine ≡ true
-  r_is f = both_left r-fine ends (both_right q-fine (r-fine && ends) (both_right p-fine (q-fine && (r-fine && ends)) f))
+  pub triangle_none : corners_fine ≡ false → NoLine triangle_tests t
+  triangle_none off = sym off ∙ triangle_fields.holds
 
   -- the field j places after the third
   triangle_its : (j : ℕ) → its r₂ j ≡ its t (suc (suc j))
   triangle_its j = sym (its_more n_seen.seen n-is (suc j) ∙ its_more (three_seen k_seen) k-is j)
 
-  pub triangle_line_lem : (at : ℕ) → TriangleSeen t (record { fine = corners_fine; first = p; number = n; second = q; next = at; third = r }) next
-  triangle_line_lem at = record {
-    seen = line_on n_seen.seen n-is (line_on (three_seen k_seen) k-is (line_more p-seen.seen (line_more q-seen.seen (line_more r-seen.seen end))));
-    number = λ f. n_seen.value_is n-is;
-    first = λ f. p-seen.value_is (p_is f) ∙ ap numbered (triangle_its 0);
-    second = λ f. q-seen.value_is (q_is f) ∙ ap numbered (sym (its_more p-seen.seen (p_is f) 0) ∙ triangle_its 1);
-    third = λ f.
-        r-seen.value_is (r_is f)
-        ∙ ap numbered (sym (its_more p-seen.seen (p_is f) 1 ∙ its_more q-seen.seen (q_is f) 0) ∙ triangle_its 2);
-  }
-
-pub triangle_none : {t : List ℕ} (r : TriangleLine) (next : List ℕ) → r.fine ≡ false → false ≡ exactly triangle_tests (fields_of (present t)) → TriangleSeen t r next
-triangle_none r next off out =
-    let never_fine : r.fine ≡ true → ⊥ = λ f. never (sym f ∙ off) in
-    record {
-      seen = line_left off out next;
-      number = λ f. absurd (never_fine f);
-      first = λ f. absurd (never_fine f);
-      second = λ f. absurd (never_fine f);
-      third = λ f. absurd (never_fine f);
-    }
+  pub triangle_line_lem : corners_fine ≡ true → (at : ℕ) → TriangleSeen t (record { first = p; number = n; second = q; next = at; third = r }) next
+  triangle_line_lem f at =
+      let p_is = both_left p-fine (q-fine && (r-fine && ends)) f in
+      let q_r = both_right p-fine (q-fine && (r-fine && ends)) f in
+      let q_is = both_left q-fine (r-fine && ends) q_r in
+      let r_is = both_left r-fine ends (both_right q-fine (r-fine && ends) q_r) in
+      record {
+        seen = rw f at triangle_fields;
+        number = n_seen.value_is n-is;
+        first = p-seen.value_is p_is ∙ ap numbered (triangle_its 0);
+        second = q-seen.value_is q_is ∙ ap numbered (sym (its_more p-seen.seen p_is 0) ∙ triangle_its 1);
+        third = r-seen.value_is r_is ∙ ap numbered (sym (its_more p-seen.seen p_is 1 ∙ its_more q-seen.seen q_is 0) ∙ triangle_its 2);
+      }

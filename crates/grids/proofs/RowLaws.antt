@@ -3,26 +3,37 @@ use Rattle.std.proofs.Common.{◌≡◌, ℕ, zero, suc, ◌+◌, ◌*◌, ◌^�
 use mathlib.Core.Bool.{and-true, and-false}
 use borrow.Author.Tests.{lt-leb}
 use lib.Dec.{leb-suc-suc}
+use Rattle.std.specs.Prelude.{Result, Err, IsErrAnd}
+use Rattle.std.proofs.lemmas.Result.{err_from_is_err_and}
 use Rattle.rows.specs.declared.Answer.{Answer}
-use Rattle.rows.specs.Scan.{row, ◌then◌}
-use Rattle.rows.proofs.ScanLaws.{row_fails, row_passed, then_first, then_stop}
-use Rattle.grids.specs.Numbers.{number_of, signed, whole_of, unsigned, is_minus, in32, after_first}
+use Rattle.rows.specs.declared.Refusal.{Refusal}
+use Rattle.rows.specs.Scan.{refused, row, ◌then◌}
+use Rattle.rows.specs.Refusals.{answered}
+use Rattle.rows.proofs.ScanLaws.{row_holds, then_stop, then_next}
+use Rattle.rows.proofs.RefusalLaws.{refuses}
+use Rattle.grids.specs.Numbers.{number_of, signed, whole_of, unsigned, is_minus, in32}
 use Rattle.grids.specs.Grid.{lengths, is_room, count_line_rows, node_line_rows, is_corner, triangle_line_rows}
-use Rattle.grids.specs.Private.{most, capped, present, its, LineSeen, CountsSeen, NodeSeen, TriangleSeen}
+use Rattle.grids.specs.Private.{most, capped, present, its, CountsSeen, NodeSeen, TriangleSeen, line_answer}
 use Rattle.grids.specs.declared.entries.Counts.{Counts}
 use Rattle.grids.specs.declared.entries.NodeLine.{NodeLine}
 use Rattle.grids.specs.declared.entries.TriangleLine.{TriangleLine}
 use Rattle.grids.proofs.LineLaws.{capped_is}
 
--- ---- what follows a row is looked at only where it accepts
-then_same : {test : Bool} (number place : ℕ) {b c : Answer} → (test ≡ true → b ≡ c) → (row test (suc number) place then b) ≡ (row test (suc number) place then c)
-then_same {test} number place {b} {c} h = go test refl
-  where
-    go : (d : Bool) → test ≡ d → (row test (suc number) place then b) ≡ (row test (suc number) place then c)
-    go true e = ap (λ (x : Answer). row test (suc number) place then x) (h e)
-    go false e =
-        let no : (row test (suc number) place).number ≡ 0 → ⊥ = λ z. absurd (omega (arith, ap (λ (a : Answer). a.number) (row_fails (suc number) place e), z)) in
-        then_stop _ b no ∙ sym (then_stop _ c no)
+-- ---- the first of a line's rows asks whether the line holds what it is to hold
+pub no_line : {test : Bool} (number place : ℕ) (rest : Answer) → false ≡ test → refused (suc number) place ≡ (row test (suc number) place then rest)
+unfolding row ◌then◌
+no_line number place rest e = rw (← e)
+
+line_held : {test : Bool} (number place : ℕ) {rest : Answer} → true ≡ test → rest ≡ (row test number place then rest)
+line_held number place {rest} e = sym (then_next _ rest (ap (λ (a : Answer). a.number) (row_holds number place (sym e))))
+
+-- ---- where the rows of lines are asked by `?`, what it hands back is the refusal
+pub line_stands : (q : Result ℕ Refusal) (x : Refusal) {b : Answer} → IsErrAnd q (λ y. y ≡ x) → answered (Err x) ≡ b → line_answer q ≡ b
+line_stands q x e says = let p = err_from_is_err_and q e in ap line_answer (p.1 ∙ ap Err p.2) ∙ says
+
+pub line_stopped : (q : Result ℕ Refusal) (x : Refusal) {b : Answer} (rest : Answer) → IsErrAnd q (λ y. y ≡ x) → answered (Err x) ≡ b
+    → line_answer q ≡ (b then rest)
+line_stopped q x {b} rest e says = line_stands q x e says ∙ sym (then_stop b rest (refuses x says))
 
 -- ---- whole numbers of 32 bits
 pub in_32 : (m : Bool) (v : ℕ) → cond m (leb v 2147483648) (leb v 2147483647) ≡ in32 (signed m v)
@@ -68,46 +79,33 @@ whole_in f minus size = (λ j. in32 (signed (minus j) (size j))) ∙ capped_32 (
 corner_is : {v : ℕ} (w : ℕ) → v ≡ capped w → is_corner v ≡ is_corner w
 corner_is w e = ap is_corner e ∙ capped_corner w
 
--- where the rows of a line accept, the next line is what stands after it
-pub line_next : {tests : List (List ℕ → Bool)} {t rest : List ℕ} {fine : Bool} → LineSeen tests t fine rest → (place : ℕ) (a : Answer)
-    → (row fine 30 place then a).number ≡ 0 → rest ≡ after_first 10 t
-line_next {fine = fine} s place a e = s.after (row_passed fine 29 place (then_first _ a e))
-
 -- ---- a node's line
 module _ (i : ℕ) {t : List ℕ} {r : NodeLine} {rest : List ℕ} (s : NodeSeen t r rest) (small : i < 2 ^ 60) where
-  abbrev pub node_tested : Answer
+  abbrev node_tested : Answer
   node_tested =
-      row r.fine 30 (2 + i)
-      then row (eqb r.number (1 + i)) 31 (2 + i)
-      then row (in32 (signed r.x.minus r.x.size) && in32 (signed r.y.minus r.y.size) && r.h.short) 32 (2 + i)
+      row (eqb r.number (1 + i)) 31 (2 + i) then row (in32 (signed r.x.minus r.x.size) && in32 (signed r.y.minus r.y.size) && r.h.short) 32 (2 + i)
 
   pub node_row : node_tested ≡ node_line_rows i (present t)
   unfolding node_line_rows
   node_row =
-      then_same 29 (2 + i)
-      (λ f. λ j.
-      row (number_is (number_of (its t 0)) i (omega arith) (s.number f) j) 31 (2 + i)
-      then row (whole_in (its t 1) (s.x_minus f) (s.x_size f) j && whole_in (its t 2) (s.y_minus f) (s.y_size f) j && s.h_short f j) 32 (2 + i))
-      ∙ rw s.seen.holds
+      (λ j.
+      row (number_is (number_of (its t 0)) i (omega arith) s.number j) 31 (2 + i)
+      then row (whole_in (its t 1) s.x_minus s.x_size j && whole_in (its t 2) s.y_minus s.y_size j && s.h_short j) 32 (2 + i))
+      ∙ line_held 30 (2 + i) s.seen.holds
 
 -- ---- a triangle's line
 module _ (n k : ℕ) {t : List ℕ} {r : TriangleLine} {rest : List ℕ} (s : TriangleSeen t r rest) (small : 3 * k < 2 ^ 62) where
-  abbrev pub triangle_tested : Answer
-  triangle_tested =
-      row r.fine 30 (2 + n + k)
-      then row (eqb r.number (1 + k)) 31 (2 + n + k)
-      then row (is_corner r.first && is_corner r.second && is_corner r.third) 32 (2 + n + k)
+  abbrev triangle_tested : Answer
+  triangle_tested = row (eqb r.number (1 + k)) 31 (2 + n + k) then row (is_corner r.first && is_corner r.second && is_corner r.third) 32 (2 + n + k)
 
   pub triangle_row : triangle_tested ≡ triangle_line_rows n k (present t)
   unfolding triangle_line_rows
   triangle_row =
-      then_same 29 (2 + n + k)
-      (λ f. λ j.
-      row (number_is (number_of (its t 0)) k (omega arith) (s.number f) j) 31 (2 + n + k)
-      then row
-      (corner_is (number_of (its t 2)) (s.first f) j && corner_is (number_of (its t 3)) (s.second f) j && corner_is (number_of (its t 4)) (s.third f) j) 32
+      (λ j.
+      row (number_is (number_of (its t 0)) k (omega arith) s.number j) 31 (2 + n + k)
+      then row (corner_is (number_of (its t 2)) s.first j && corner_is (number_of (its t 3)) s.second j && corner_is (number_of (its t 4)) s.third j) 32
       (2 + n + k))
-      ∙ rw s.seen.holds
+      ∙ line_held 30 (2 + n + k) s.seen.holds
 
 -- ---- the second line
 room_is : (x y h tri n e : ℕ) → h < 2 ^ 60 → tri < 2 ^ 62
@@ -133,14 +131,13 @@ room_is x y h tri n e few small = nodes (leb most n) refl
         rw same (ap (λ (d : Bool). eqb x n && eqb y n && eqb h n && d) (triangles (leb most e) refl))
 
 module _ (x y h tri : ℕ) {t : List ℕ} {r : Counts} {rest : List ℕ} (s : CountsSeen t r rest) (few : h < 2 ^ 60) (small : tri < 2 ^ 62) where
-  abbrev pub counts_tested : Answer
-  counts_tested = row r.fine 30 1 then row (eqb x r.n && eqb y r.n && eqb h r.n && eqb tri (3 * r.e)) 33 1
+  abbrev counts_tested : Answer
+  counts_tested = row (eqb x r.n && eqb y r.n && eqb h r.n && eqb tri (3 * r.e)) 33 1
 
   pub counts_row : counts_tested ≡ count_line_rows (lengths x y h tri) (present t)
   unfolding count_line_rows
   counts_row =
-      then_same 29 1
-      (λ f. ap (λ (b : Bool). row b 33 1)
-      ((λ j. eqb x (s.n f j) && eqb y (s.n f j) && eqb h (s.n f j) && eqb tri (3 * s.e f j))
-      ∙ room_is x y h tri (number_of (its t 1)) (number_of (its t 0)) few small))
-      ∙ rw s.seen.holds
+      ap (λ (b : Bool). row b 33 1)
+      ((λ j. eqb x (s.n j) && eqb y (s.n j) && eqb h (s.n j) && eqb tri (3 * s.e j))
+      ∙ room_is x y h tri (number_of (its t 1)) (number_of (its t 0)) few small)
+      ∙ line_held 30 1 s.seen.holds

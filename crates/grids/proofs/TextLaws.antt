@@ -1,8 +1,12 @@
 -- The lines of a text as a reader meets them, one after the other, and rows that are asked line by line.
 use Rattle.std.proofs.Common.{◌≡◌, ℕ, zero, suc, ◌+◌, ◌<◌, Bool, true, false, cond, eqb, List, [], ◌∷◌, get_or, sym, refl, ap, ◌∙◌, suc-add, zero-add, add-one}
+use Rattle.std.specs.Prelude.{Err}
 use Rattle.rows.specs.declared.Answer.{Answer}
+use Rattle.rows.specs.declared.Refusal.{Refusal}
 use Rattle.rows.specs.Scan.{accepted, scan}
-use Rattle.rows.proofs.ScanLaws.{scan_hit, scan_none, same_number, other_number}
+use Rattle.rows.specs.Refusals.{answered}
+use Rattle.rows.proofs.ScanLaws.{scan_hit, scan_none}
+use Rattle.rows.proofs.RefusalLaws.{refuses, accepts}
 use Rattle.grids.specs.Text.{cut, pieces_of, line_of}
 use Rattle.grids.specs.Numbers.{before_first, after_first}
 use Rattle.grids.specs.Private.{present, after_lines}
@@ -64,15 +68,16 @@ module _ (rows : ℕ → List ℕ → Answer) (t : List ℕ) where
   abbrev pub asked : ℕ → Answer
   asked i = rows i (line_of t i)
 
-  module _ (i : ℕ) {left : List ℕ} {a : Answer} (at : left ≡ after_lines i t) (is : a ≡ rows i (present left)) where
-    asked_is : a ≡ asked i
-    asked_is = is ∙ ap (rows i) (ap present at ∙ sym (line_at i t))
+  module _ (i : ℕ) {left : List ℕ} (at : left ≡ after_lines i t) where
+    asked_is : {a : Answer} → a ≡ rows i (present left) → a ≡ asked i
+    asked_is is = is ∙ ap (rows i) (ap present at ∙ sym (line_at i t))
 
-    pub ask_more : a.number ≡ 0 → (asked i).number ≡ 0
-    ask_more e = same_number asked_is e
+    pub ask_more : accepted ≡ rows i (present left) → (asked i).number ≡ 0
+    ask_more is = accepts (asked_is is)
 
-    pub ask_hit : (n : ℕ) → i < n → ((k : ℕ) → k < i → (asked k).number ≡ 0) → (a.number ≡ 0 → ⊥) → a ≡ scan asked n
-    ask_hit n l h r = asked_is ∙ sym (scan_hit asked n i l h (other_number asked_is r))
+    pub ask_hit : (x : Refusal) → answered (Err x) ≡ rows i (present left) → (n : ℕ) → i < n → ((k : ℕ) → k < i → (asked k).number ≡ 0)
+        → answered (Err x) ≡ scan asked n
+    ask_hit x is n l h = asked_is is ∙ sym (scan_hit asked n i l h (refuses x (asked_is is)))
 
   pub ask_none : (n : ℕ) → ((k : ℕ) → k < n → (asked k).number ≡ 0) → accepted ≡ scan asked n
   ask_none n h = sym (scan_none asked n h)

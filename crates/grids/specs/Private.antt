@@ -1,5 +1,9 @@
 -- What is read of a text from one of its bytes on, for laws and for the contracts of private functions. No public contract cites it.
-use Rattle.std.specs.Prelude.{◌≡◌, ℕ, zero, suc, ◌+◌, ◌-◌, ◌*◌, ◌^◌, ◌≤◌, min, Bool, true, cond, ◌&&◌, ◌||◌, List, [], ◌∷◌, length, drop, ℤ, ◌==◌, nat_lt, Float}
+use Rattle.std.specs.Prelude.{◌≡◌, ℕ, zero, suc, ◌+◌, ◌-◌, ◌*◌, ◌^◌, ◌≤◌, min, Bool, true, false, cond, ◌&&◌, ◌||◌, List, [], ◌∷◌, length, drop, ℤ, ◌==◌, nat_lt, Result, Ok, Err, Float}
+use Rattle.rows.specs.declared.Answer.{Answer}
+use Rattle.rows.specs.declared.Refusal.{Refusal}
+use Rattle.rows.specs.Scan.{accepted}
+use Rattle.rows.specs.Refusals.{answered}
 use Rattle.lists.specs.Table.{table}
 use Rattle.grids.specs.Text.{line_of, fields_of, field_of, exactly}
 use Rattle.grids.specs.Numbers.{is_digit, is_number, number_of, is_minus, unsigned, is_whole, before_first, after_first, is_depth, is_short, size_of}
@@ -88,10 +92,10 @@ pub record WholeSeen (t : List ℕ) (fine minus : Bool) (size : ℕ) (rest : Lis
   pub size_is : fine ≡ true → size ≡ capped (number_of (unsigned (first t)))
 
 pub record DepthSeen (t : List ℕ) (r : Depth) (rest : List ℕ) : Type 0 where
-  pub seen : Seen is_depth t r.fine rest
-  pub minus : r.fine ≡ true → r.minus ≡ is_minus (first t)
-  pub short : r.fine ≡ true → r.short ≡ is_short (first t)
-  pub size : r.fine ≡ true → r.short ≡ true → r.size ≡ size_of (first t)
+  pub seen : Seen is_depth t true rest
+  pub minus : r.minus ≡ is_minus (first t)
+  pub short : r.short ≡ is_short (first t)
+  pub size : r.short ≡ true → r.size ≡ size_of (first t)
   pub small : r.size ≤ 2 ^ 53
 
 -- ---- what the lines from t on fill: n nodes, and the corners of triangles
@@ -109,26 +113,35 @@ pub record LineSeen (tests : List (List ℕ → Bool)) (t : List ℕ) (fine : Bo
   pub holds : fine ≡ exactly tests (fields_of (present t))
   pub after : fine ≡ true → rest ≡ after_first 10 t
 
+-- the line does not hold what it is to hold
+abbrev pub NoLine : List (List ℕ → Bool) → List ℕ → Type 0
+NoLine tests t = false ≡ exactly tests (fields_of (present t))
+
 pub record CountsSeen (t : List ℕ) (r : Counts) (rest : List ℕ) : Type 0 where
-  pub seen : LineSeen count_tests t r.fine rest
-  pub e : r.fine ≡ true → r.e ≡ capped (number_of (its t 0))
-  pub n : r.fine ≡ true → r.n ≡ capped (number_of (its t 1))
+  pub seen : LineSeen count_tests t true rest
+  pub e : r.e ≡ capped (number_of (its t 0))
+  pub n : r.n ≡ capped (number_of (its t 1))
 
 pub record NodeSeen (t : List ℕ) (r : NodeLine) (rest : List ℕ) : Type 0 where
-  pub seen : LineSeen node_tests t r.fine rest
-  pub number : r.fine ≡ true → r.number ≡ capped (number_of (its t 0))
-  pub x_minus : r.fine ≡ true → r.x.minus ≡ is_minus (its t 1)
-  pub x_size : r.fine ≡ true → r.x.size ≡ capped (number_of (unsigned (its t 1)))
-  pub y_minus : r.fine ≡ true → r.y.minus ≡ is_minus (its t 2)
-  pub y_size : r.fine ≡ true → r.y.size ≡ capped (number_of (unsigned (its t 2)))
-  pub h_minus : r.fine ≡ true → r.h.minus ≡ is_minus (its t 3)
-  pub h_short : r.fine ≡ true → r.h.short ≡ is_short (its t 3)
-  pub h_size : r.fine ≡ true → r.h.short ≡ true → r.h.size ≡ size_of (its t 3)
+  pub seen : LineSeen node_tests t true rest
+  pub number : r.number ≡ capped (number_of (its t 0))
+  pub x_minus : r.x.minus ≡ is_minus (its t 1)
+  pub x_size : r.x.size ≡ capped (number_of (unsigned (its t 1)))
+  pub y_minus : r.y.minus ≡ is_minus (its t 2)
+  pub y_size : r.y.size ≡ capped (number_of (unsigned (its t 2)))
+  pub h_minus : r.h.minus ≡ is_minus (its t 3)
+  pub h_short : r.h.short ≡ is_short (its t 3)
+  pub h_size : r.h.short ≡ true → r.h.size ≡ size_of (its t 3)
   pub h_small : r.h.size ≤ 2 ^ 53
 
 pub record TriangleSeen (t : List ℕ) (r : TriangleLine) (rest : List ℕ) : Type 0 where
-  pub seen : LineSeen triangle_tests t r.fine rest
-  pub number : r.fine ≡ true → r.number ≡ capped (number_of (its t 0))
-  pub first : r.fine ≡ true → r.first ≡ capped (number_of (its t 2))
-  pub second : r.fine ≡ true → r.second ≡ capped (number_of (its t 3))
-  pub third : r.fine ≡ true → r.third ≡ capped (number_of (its t 4))
+  pub seen : LineSeen triangle_tests t true rest
+  pub number : r.number ≡ capped (number_of (its t 0))
+  pub first : r.first ≡ capped (number_of (its t 2))
+  pub second : r.second ≡ capped (number_of (its t 3))
+  pub third : r.third ≡ capped (number_of (its t 4))
+
+-- ---- lines were asked: what is answered, where an acceptance has the place at which the next line starts
+abbrev pub line_answer : Result ℕ Refusal → Answer
+line_answer (Ok next) = accepted
+line_answer (Err r) = answered (Err r)

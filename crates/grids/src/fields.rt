@@ -1,6 +1,7 @@
 // What a field of a line is, once its spaces and its digits have been read.
-ghost use Rattle.std.specs.Prelude.{◌≡◌, ◌+◌, ◌-◌, ◌*◌, ◌^◌, ◌<◌, ◌≤◌, length, drop, if◌then◌else◌, nat_eq};
-ghost use Rattle.grids.specs.Private.{DepthSeen, closed};
+ghost use Rattle.std.specs.Prelude.{◌≡◌, ◌+◌, ◌-◌, ◌*◌, ◌^◌, ◌<◌, ◌≤◌, false, length, drop, if◌then◌else◌, nat_eq, IfSome, MatchOption};
+ghost use Rattle.grids.specs.Numbers.{is_depth};
+ghost use Rattle.grids.specs.Private.{first, DepthSeen, closed};
 
 use crate::scanning;
 use crate::scanning::Digits;
@@ -15,7 +16,6 @@ pub(crate) struct Whole {
 // A depth. It is `short` where it has at most nine whole digits and three decimals, and its size is then in thousandths.
 #[derive(Clone, Copy)]
 pub(crate) struct Depth {
-    pub(crate) fine: bool,
     pub(crate) minus: bool,
     pub(crate) short: bool,
     pub(crate) size: u64,
@@ -58,10 +58,10 @@ fn thousandths(whole: u64, decimals: u64, places: usize) -> u64
     whole * 1000 + decimals * unit(places)
 }
 
-pub(crate) fn depth_at(text: &[u8], from: usize) -> Depth
+pub(crate) fn depth_at(text: &[u8], from: usize) -> Option<Depth>
     requires { from ≤ length text.now }
-    ensures depth_seen { DepthSeen (drop from text.now) result (drop result.next text.now) }
-    ensures next_in_bounds { result.next ≤ length text.now }
+    ensures depth_seen { MatchOption result (false ≡ is_depth (first (drop from text.now))) (λ h. DepthSeen (drop from text.now) h (drop h.next text.now)) }
+    ensures next_in_bounds { IfSome result (λ h. h.next ≤ length text.now) }
 {
     let gap = scanning::skip(text, from);
     let first = past(gap.end, gap.stop, 45);
@@ -70,18 +70,20 @@ pub(crate) fn depth_at(text: &[u8], from: usize) -> Depth
     let decimals = scanning::digits_at(text, point);
     let digits = whole.end - first;
     let places = decimals.end - point;
+    let parts = (whole.stop != 46) | (0 < places);
+    if !((0 < digits) & parts & scanning::is_end(decimals.stop)) {
+        return None;
+    }
     let short = (digits <= 9) & (places <= 3);
     let size = if short {
         thousandths(whole.value, decimals.value, places)
     } else {
         0
     };
-    let parts = (whole.stop != 46) | (0 < places);
-    Depth {
-        fine: (0 < digits) & parts & scanning::is_end(decimals.stop),
+    Some(Depth {
         minus: gap.stop == 45,
         short,
         size,
         next: decimals.end,
-    }
+    })
 }

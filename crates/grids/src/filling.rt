@@ -44,7 +44,7 @@ fn fill_nodes(x: &mut [i32], y: &mut [i32], h: &mut [f64], text: &[u8], from: us
     let n = x.len();
     let mut at = from;
     for i in 0..n {
-        let its = entries::node_at(text, at);
+        let its = entries::node_at(text, at).unwrap();
         x[i] = whole_of(its.x);
         y[i] = whole_of(its.y);
         h[i] = depth_of(its.h);
@@ -70,7 +70,7 @@ fn fill_triangles(tri: &mut [u16], text: &[u8], n: usize, from: usize)
     let e = tri.len() / 3;
     let mut at = from;
     for k in 0..e {
-        let its = entries::triangle_at(text, at);
+        let its = entries::triangle_at(text, at).unwrap();
         tri[3 * k + 0] = node_of(its.first);
         tri[3 * k + 1] = node_of(its.second);
         tri[3 * k + 2] = node_of(its.third);

@@ -27,8 +27,8 @@ pub(crate) fn skip_rest(text: &[u8], from: usize) -> Gap
     requires { from ≤ length text.now }
     ensures { GapSeen text.now from result }
 {
-    let mut at = from;
-    while at < text.len() {
+    let end = text.len();
+    for at in from..end {
         let byte = text[at];
         if byte != 32 {
             return Gap {
@@ -36,9 +36,8 @@ pub(crate) fn skip_rest(text: &[u8], from: usize) -> Gap
                 stop: byte,
             };
         }
-        at += 1;
     }
-    Gap { end: at, stop: 10 }
+    Gap { end, stop: 10 }
 }
 
 // The spaces from `from` on.
@@ -75,8 +74,8 @@ fn digits_rest(text: &[u8], from: usize, first: u64) -> Digits
     ensures { DigitsSeen text.now from first result }
 {
     let mut value = first;
-    let mut at = from;
-    while at < text.len() {
+    let end = text.len();
+    for at in from..end {
         let byte = text[at];
         if !((48 <= byte) & (byte <= 57)) {
             return Digits {
@@ -86,11 +85,10 @@ fn digits_rest(text: &[u8], from: usize, first: u64) -> Digits
             };
         }
         value = more(value, byte);
-        at += 1;
     }
     Digits {
         value,
-        end: at,
+        end,
         stop: 10,
     }
 }
@@ -131,12 +129,10 @@ pub(crate) fn is_end(byte: u8) -> bool
 pub(crate) fn past_line(text: &[u8], from: usize) -> usize
     ensures { drop result text.now ≡ after_first 10 (drop from text.now) }
 {
-    let mut at = from;
-    while at < text.len() {
+    for at in from..text.len() {
         if text[at] == 10 {
             return at + 1;
         }
-        at += 1;
     }
-    at
+    text.len()
 }

@@ -1,26 +1,10 @@
-use Rattle.std.proofs.Common.{◌≡◌, ℕ, List}
-use Rattle.rows.proofs.ScanLaws.{same_number}
-use Rattle.grids.specs.Grid.{Grid, grid, grid_answer}
+use Rattle.grids.specs.Grid.{grid}
 use Rattle.grids.proofs.GridLaws.{read_done, read_refused}
 use Rattle.grids.proofs.read_grid.Goals as goal
-use Rattle.grids.proofs.read_grid.Goals.{After-grid_rows-answer}
 
-abbrev t : After-grid_rows-answer → List ℕ
-t g = g.args.text.now
+pub returns-in_err-grid_rows : goal.returns-in_err-grid_rows
+returns-in_err-grid_rows c =
+    let a = c.args in read_refused (grid a.x.now a.y.now a.h.now a.tri.now) a.text.now _ _ c.from_residual.ensures.1 c.in_err-grid_rows.ensures
 
-abbrev lent : After-grid_rows-answer → Grid
-lent g = let a = g.args in grid a.x.now a.y.now a.h.now a.tri.now
-
-answered : (g : After-grid_rows-answer) → g.grid_rows-answer.result ≡ grid_answer (lent g) (t g)
-answered g = g.grid_rows-answer.ensures
-
-pub fill-requires : goal.fill-requires
-fill-requires c = same_number (answered (goal.at.fill-requires c).After-grid_rows-answer) c.if-answer-eq0.true
-
-pub returns-then-answer-eq0 : goal.returns-then-answer-eq0
-returns-then-answer-eq0 c =
-    let g = (goal.at.returns-then-answer-eq0 c).After-grid_rows-answer in read_done (lent g) (t g) (answered g) c.if-answer-eq0.true c.fill.ensures
-
-pub returns-else-answer-eq0 : goal.returns-else-answer-eq0
-returns-else-answer-eq0 c =
-    let g = (goal.at.returns-else-answer-eq0 c).After-grid_rows-answer in read_refused (lent g) (t g) (answered g) c.if-answer-eq0.false
+pub returns : goal.returns
+returns c = let a = c.args in read_done (grid a.x.now a.y.now a.h.now a.tri.now) a.text.now c.in_ok-grid_rows.ensures c.fill.ensures

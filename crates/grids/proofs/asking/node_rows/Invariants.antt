@@ -1,4 +1,4 @@
-use Rattle.std.proofs.Common.{◌≡◌, ℕ, ◌<◌, ◌≤◌, drop}
+use Rattle.std.proofs.Common.{◌≡◌, ℕ, ◌<◌, drop}
 use Rattle.grids.specs.Grid.{node_line_rows}
 use Rattle.grids.specs.Private.{after_lines}
 use Rattle.grids.proofs.TextLaws.{asked}
@@ -7,4 +7,4 @@ use Rattle.grids.proofs.asking.node_rows.Given as goal
 -- i lines were asked and accepted
 abbrev pub invariant-loop-i : goal.invariant-loop-i
 invariant-loop-i l =
-    (l.i ≤ l.n) × ((drop l.at l.text ≡ after_lines l.i (drop l.from l.text)) × ((k : ℕ) → k < l.i → (asked node_line_rows (drop l.from l.text) k).number ≡ 0))
+    (drop l.at l.text ≡ after_lines l.i (drop l.from l.text)) × ((k : ℕ) → k < l.i → (asked node_line_rows (drop l.from l.text) k).number ≡ 0)

@@ -1,8 +1,10 @@
-use Rattle.std.proofs.Common.{◌≡◌, ℕ, ◌-◌, ◌^◌, ◌<◌, ◌≤◌, true, ◌&&◌, ◌||◌, eqb, leb, List, drop, sym, refl, ap, ◌∙◌, arith, leb-true}
+use Rattle.std.proofs.Common.{◌≡◌, ℕ, ◌-◌, ◌^◌, ◌<◌, ◌≤◌, Bool, true, ◌&&◌, ◌||◌, eqb, leb, List, drop, sym, refl, ap, ◌∙◌, arith, leb-true}
 use Rattle.rows.proofs.ScanLaws.{both_left, both_right}
+use Rattle.grids.specs.Numbers.{starts_with, without}
+use Rattle.grids.specs.Private.{is_end}
 use Rattle.grids.proofs.LeftLaws.{ends_front, starts_front, past_left, past_within}
 use Rattle.grids.proofs.WordLaws.{never}
-use Rattle.grids.proofs.FieldLaws.{run_below, Found, found_digits, found_places, depth_seen}
+use Rattle.grids.proofs.FieldLaws.{run_below, Found, found_digits, found_places, depth_none, depth_seen}
 use Rattle.grids.proofs.fields.depth_at.Goals as goal
 use Rattle.grids.proofs.fields.depth_at.Goals.{After-digits_at-decimals, then-short, else-short}
 
@@ -41,13 +43,28 @@ small k s =
       three,
     )
 
+-- what stands after the digits, and after the decimals
+
+pointed : (k : After-digits_at-decimals) → eqb k.digits_at-whole.result.stop 46 ≡ starts_with 46 (drop (mid k) (text k))
+pointed k = ap (λ (b : ℕ). eqb b 46) k.digits_at-whole.ensures.stop ∙ starts_front 46 refl _
+
+ends : (k : After-digits_at-decimals) {e : Bool} → e ≡ (eqb k.digits_at-decimals.result.stop 32 || eqb k.digits_at-decimals.result.stop 10)
+    → e ≡ is_end (drop (end k) (text k))
+ends k is = is ∙ ap (λ (b : ℕ). eqb b 32 || eqb b 10) k.digits_at-decimals.ensures.stop ∙ ends_front _
+
+signless : (k : After-digits_at-decimals) → drop (from k) (text k) ≡ without 45 (drop k.skip-gap.result.end (text k))
+signless k = past_left 45 refl (text k) k.skip-gap.result.end k.skip-gap.ensures.stop k.past-first.ensures
+
+pub returns-then-not-digits-parts-clause-depth_seen : goal.returns-then-not-digits-parts-clause-depth_seen
+returns-then-not-digits-parts-clause-depth_seen c =
+    let k = (goal.at.returns-then-not-digits-parts-clause-depth_seen c).After-digits_at-decimals in
+    depth_none _ (text k) c.skip-gap.result.end c.skip-gap.ensures.left (signless k) (found k) _ _ (pointed k) (ends k c.is_end.ensures) c.if-not-digits-parts.true
+
 pub returns-clause-depth_seen : goal.returns-clause-depth_seen
 returns-clause-depth_seen c =
     let k = (goal.at.returns-clause-depth_seen c).After-digits_at-decimals in
     let gap = c.skip-gap.ensures in
-    depth_seen _ (text k) c.skip-gap.result.end gap.left (past_left 45 refl (text k) c.skip-gap.result.end gap.stop c.past-first.ensures) (found k) _ _ _ _ _ _
-    (ap (λ (b : ℕ). eqb b 46) c.digits_at-whole.ensures.stop ∙ starts_front 46 refl _)
-    (c.is_end.ensures ∙ ap (λ (b : ℕ). eqb b 32 || eqb b 10) c.digits_at-decimals.ensures.stop ∙ ends_front _)
+    depth_seen _ (text k) c.skip-gap.result.end gap.left (signless k) (found k) _ _ (pointed k) (ends k c.is_end.ensures) c.if-not-digits-parts.false _ _ _ _
     (ap (λ (b : ℕ). eqb b 45) gap.stop ∙ starts_front 45 refl _)
     c.digits_at-whole.ensures.value c.digits_at-decimals.ensures.value
     (λ s. elim c.if-short.branch [ then-short a ↦ a.size-is ∙ a.thousandths-size.ensures.0 | else-short b ↦ absurd (never (sym s ∙ b.if-short.false)) ])

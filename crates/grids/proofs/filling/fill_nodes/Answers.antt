@@ -1,44 +1,54 @@
 use Rattle.std.proofs.Common.{◌≡◌, ℕ, List, length, drop, sym, refl, ap, ◌∙◌, arith, rules}
+use Rattle.std.proofs.lemmas.Option.{MatchOption-at_some}
 use Rattle.lists.specs.Table.{table}
 use Rattle.lists.specs.Private.{up_to}
 use Rattle.lists.proofs.TableLaws.{up_none, up_all, fill_more}
 use Rattle.grids.specs.Text.{line_of, field_of}
 use Rattle.grids.specs.Numbers.{whole_of, depth_of}
-use Rattle.grids.specs.Grid.{node_line_rows, x_in, y_in, h_in}
+use Rattle.grids.specs.Grid.{node_tests, node_line_rows, x_in, y_in, h_in}
 use Rattle.grids.specs.Private.{present, after_lines, NodeSeen, NodesFilled}
 use Rattle.grids.specs.declared.entries.NodeLine.{NodeLine}
 use Rattle.grids.proofs.SignLaws.{handed_32}
-use Rattle.grids.proofs.FillLaws.{here, here_accepts, here_after, x_value, y_value, x_fits, y_fits, h_value, node_after}
+use Rattle.grids.proofs.FillLaws.{here, here_accepts, here_after, line_there, node_holds, x_value, y_value, x_fits, y_fits, h_value, node_after}
 use Rattle.grids.proofs.filling.fill_nodes.Goals as goal
-use Rattle.grids.proofs.filling.fill_nodes.Goals.{After-loop-i, After-node_at-its}
+use Rattle.grids.proofs.filling.fill_nodes.Goals.{After-loop-i, After-unwrap-its}
 
 pub loop-i-init : goal.loop-i-init
 unfolding after_lines
 loop-i-init c = (search rules, (refl, (sym (up_none _ _), (sym (up_none _ _), sym (up_none _ _)))))
 
--- the line that was read is the next node's, and was accepted
+-- the next node's line was accepted, so that it is there
 
-abbrev u : After-node_at-its → List ℕ
+pub unwrap-its-requires : goal.unwrap-its-requires
+unwrap-its-requires c =
+    let left = drop c.loop-i.at c.args.text.now in
+    let accepted = c.requires.by_index c.loop-i.i c.loop-i-test.true in
+    let ok = here_accepts c.loop-i.i (drop c.args.from c.args.text.now) c.loop-i.invariant.1.0 node_line_rows accepted in
+    line_there node_tests left _ _ c.node_at.ensures (node_holds c.loop-i.i left ok)
+
+-- and was read
+
+abbrev u : After-unwrap-its → List ℕ
 u k = drop k.args.from k.args.text.now
 
-abbrev i : After-node_at-its → ℕ
+abbrev i : After-unwrap-its → ℕ
 i k = k.loop-i.i
 
-abbrev r : After-node_at-its → NodeLine
-r k = k.node_at-its.result
+abbrev r : After-unwrap-its → NodeLine
+r k = k.unwrap-its.result
 
-seen : (k : After-node_at-its) → NodeSeen (drop k.loop-i.at k.args.text.now) (r k) (drop (r k).next k.args.text.now)
-seen k = k.node_at-its.ensures
+seen : (k : After-unwrap-its) → NodeSeen (drop k.loop-i.at k.args.text.now) (r k) (drop (r k).next k.args.text.now)
+seen k = MatchOption-at_some _ _ _ k.unwrap-its.ensures k.node_at.ensures
 
-at : (k : After-node_at-its) → drop k.loop-i.at k.args.text.now ≡ after_lines (i k) (u k)
+at : (k : After-unwrap-its) → drop k.loop-i.at k.args.text.now ≡ after_lines (i k) (u k)
 at k = k.loop-i.invariant.1.0
 
-ok : (k : After-node_at-its) → (node_line_rows (i k) (present (drop k.loop-i.at k.args.text.now))).number ≡ 0
+ok : (k : After-unwrap-its) → (node_line_rows (i k) (present (drop k.loop-i.at k.args.text.now))).number ≡ 0
 ok k = here_accepts (i k) (u k) (at k) node_line_rows (k.requires.by_index (i k) k.loop-i-test.true)
 
 pub loop-i-preserved : goal.loop-i-preserved
 loop-i-preserved c =
-    let k = (goal.at.loop-i-preserved c).After-node_at-its in
+    let k = (goal.at.loop-i-preserved c).After-unwrap-its in
     let a = c.args in
     let turn = c.loop-i-test.true in
     let lengths = c.requires.y_len in
@@ -83,10 +93,10 @@ pub returns : goal.returns
 returns c = filled (goal.at.returns c).After-loop-i
 
 pub whole_of-requires : goal.whole_of-requires
-whole_of-requires c = let k = (goal.at.whole_of-requires c).After-node_at-its in x_fits (i k) (seen k) (ok k)
+whole_of-requires c = let k = (goal.at.whole_of-requires c).After-unwrap-its in x_fits (i k) (seen k) (ok k)
 
 pub whole_of-requires-in-loop-i : goal.whole_of-requires-in-loop-i
-whole_of-requires-in-loop-i c = let k = (goal.at.whole_of-requires-in-loop-i c).After-node_at-its in y_fits (i k) (seen k) (ok k)
+whole_of-requires-in-loop-i c = let k = (goal.at.whole_of-requires-in-loop-i c).After-unwrap-its in y_fits (i k) (seen k) (ok k)
 
 pub depth_of-requires : goal.depth_of-requires
-depth_of-requires c = (seen (goal.at.depth_of-requires c).After-node_at-its).h_small
+depth_of-requires c = (seen (goal.at.depth_of-requires c).After-unwrap-its).h_small
