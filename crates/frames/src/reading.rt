@@ -41,13 +41,10 @@ pub fn value(line: &[u8], at: usize, width: usize) -> u64
     if bytes < at {
         return 0;
     }
-    let rest = bytes - at;
-    let count = if width < rest { width } else { rest };
+    let count = width.min(bytes - at);
     let mut v: u64 = 0;
-    let mut k: usize = 0;
-    while k < count {
+    for k in 0..count {
         v = v * 256 + digits::byte_at(line, at + k) as u64;
-        k += 1;
     }
     v
 }

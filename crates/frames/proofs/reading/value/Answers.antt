@@ -1,20 +1,15 @@
-use Rattle.std.proofs.Common.{◌≡◌, ◌+◌, ◌/◌, ◌^◌, ◌<◌, ◌≤◌, ◌⊎◌, length, sym, refl, ap, inl, inr, ⊎_elim, arith, drop_of_length-le, le-leb}
+use Rattle.std.proofs.Common.{◌+◌, ◌^◌, ◌<◌, ◌≤◌, length, sym, refl, ap, inl, inr, ⊎_elim, arith, drop_of_length-le, le-leb}
+use native.Mathlib.Nat.{eq-or-lt_of_le}
 use borrow.Author.Tests.{lt-leb}
 use lib.Seq.{take-nil}
 use Rattle.frames.specs.Bytes.{bytes, number}
 use Rattle.frames.specs.Reading.{value}
 use Rattle.frames.proofs.ByteLaws.{bytes_length, number_room, number_grows, number_more, number_ends}
 use Rattle.frames.proofs.reading.value.Goals as goal
-use Rattle.frames.proofs.reading.value.Goals.{In-loop-k, Joined-width-rest, then-width-rest, else-width-rest}
-
--- the bytes that are read are at most the field's, and stand within the line
-within : (c : Joined-width-rest)
-    → let a = c.args in
-    (c.if-width-rest.count ≤ a.width) × (a.at + c.if-width-rest.count ≤ length a.line.now / 2) × ((c.if-width-rest.count ≡ a.width) ⊎ (length a.line.now / 2 ≤ a.at + c.if-width-rest.count))
-within c = elim c.if-width-rest.branch [ then-width-rest w ↦ (omega arith, omega arith, inl (omega arith)) | else-width-rest w ↦ (omega arith, omega arith, inr (omega arith)) ]
+use Rattle.frames.proofs.reading.value.Goals.{In-loop-k}
 
 small : (c : In-loop-k) → c.loop-k.v < 256 ^ 7
-small c = number_room _ _ c.loop-k.invariant.1 (omega arith)
+small c = number_room _ _ c.loop-k.invariant.0 (omega arith)
 
 pub returns-then-bytes-at : goal.returns-then-bytes-at
 unfolding value number
@@ -26,18 +21,17 @@ returns-then-bytes-at c =
 pub loop-k-preserved : goal.loop-k-preserved
 loop-k-preserved c =
     let a = c.args in
-    let w = within (goal.at.loop-k-preserved c).Joined-width-rest in
     let l : a.at + c.loop-k.k < length (bytes a.line.now) = rw bytes_length (omega arith) in
-    (omega arith, number_grows _ _ _ c.loop-k.invariant.1 c.byte_at.ensures.1, rw (c.loop-k.invariant.2, c.byte_at.ensures.0) (sym (number_more (bytes a.line.now) a.at c.loop-k.k l)))
+    (number_grows _ _ _ c.loop-k.invariant.0 c.byte_at.ensures.1, rw (c.loop-k.invariant.1, c.byte_at.ensures.0) (sym (number_more (bytes a.line.now) a.at c.loop-k.k l)))
 
 pub returns : goal.returns
 unfolding value
 returns c =
     let a = c.args in
-    let w = within (goal.at.returns c).Joined-width-rest in
     let n = bytes_length a.line.now in
-    rw (le-leb a.width 8 (omega arith), c.loop-k.invariant.2)
-    (number_ends (bytes a.line.now) a.at c.loop-k.k a.width (omega arith) (⊎_elim (λ e. inl (omega arith)) (λ e. inr (omega arith)) w.2))
+    let k : c.loop-k.k ≤ a.width = omega arith in
+    rw (le-leb a.width 8 (omega arith), c.loop-k.invariant.1)
+    (number_ends (bytes a.line.now) a.at c.loop-k.k a.width k (⊎_elim inl (λ l. inr (omega arith)) (eq-or-lt_of_le k)))
 
 pub returns-then-width-gt8 : goal.returns-then-width-gt8
 unfolding value
@@ -45,7 +39,7 @@ returns-then-width-gt8 c = rw (lt-leb _ _ c.if-width-gt8.true)
 
 pub loop-k-init : goal.loop-k-init
 unfolding number
-loop-k-init c = (omega arith, omega arith, refl)
+loop-k-init c = (omega arith, refl)
 
 pub overflow_mul-v : goal.overflow_mul-v
 overflow_mul-v c = omega (arith, small (goal.at.overflow_mul-v c).In-loop-k)
