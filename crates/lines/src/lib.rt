@@ -52,14 +52,14 @@ impl Line {
         }
         let mut bytes = self.bytes;
         let mut rest = value;
-        let mut left = 2 * width;
-        let len = at + left;
-        while 0 < left {
-            left -= 1;
-            bytes[at + left] = digit((rest % 16) as u8);
-            rest = rest / 16;
+        for k in (0..2 * width).rev() {
+            bytes[at + k] = digit((rest % 16) as u8);
+            rest /= 16;
         }
-        Line { bytes, len }
+        Line {
+            bytes,
+            len: at + 2 * width,
+        }
     }
 
     // The check byte and the line feed.

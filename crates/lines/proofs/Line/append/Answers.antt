@@ -9,13 +9,13 @@ use Rattle.lines.proofs.LaidLaws.{laid_none}
 use Rattle.lines.proofs.BuildLaws.{hex, hex_field, hex_turn, field_digits, appended_room, appended_full}
 use Rattle.lines.proofs.Line.append.Goals as goal
 
-pub loop-left-preserved : goal.loop-left-preserved
-loop-left-preserved c =
+pub loop-k-preserved : goal.loop-k-preserved
+loop-k-preserved c =
     let a = c.args in
-    let e : c.loop-left.left ≡ suc (c.loop-left.left - 1) = omega arith in (
+    let e : c.loop-k.k ≡ suc (c.loop-k.k - 1) = omega arith in (
       omega arith,
-      simp length-set c.loop-left.invariant.1,
-      rw c.digit.ensures (hex_turn c.loop-left.bytes a.self.len (c.loop-left.left - 1) c.loop-left.rest (omega arith) ∙ rw (← e) c.loop-left.invariant.2),
+      simp length-set c.loop-k.invariant.1,
+      rw c.digit.ensures (hex_turn c.loop-k.bytes a.self.len (c.loop-k.k - 1) c.loop-k.rest (omega arith) ∙ rw (← e) c.loop-k.invariant.2),
     )
 
 pub returns : goal.returns
@@ -23,8 +23,8 @@ unfolding hex
 returns c =
     let a = c.args in
     let t = digits (field a.width a.value) in
-    let z : c.loop-left.left ≡ 0 = omega arith in
-    let e : c.loop-left.bytes ≡ laid a.self.bytes a.self.len t = sym (laid_none c.loop-left.bytes a.self.len) ∙ (rw (z, hex_field) at c.loop-left.invariant.2) in
+    let z : c.loop-k.k ≡ 0 = omega arith in
+    let e : c.loop-k.bytes ≡ laid a.self.bytes a.self.len t = sym (laid_none c.loop-k.bytes a.self.len) ∙ (rw (z, hex_field) at c.loop-k.invariant.2) in
     rw (appended_room a.self t (rw field_digits (omega arith)), field_digits, e)
 
 pub returns-then-at-gt-LONGEST : goal.returns-then-at-gt-LONGEST
@@ -33,5 +33,5 @@ returns-then-at-gt-LONGEST c = sym (appended_full _ _ (rw field_digits (omega ar
 pub returns-then-at-width : goal.returns-then-at-width
 returns-then-at-width c = sym (appended_full _ _ (rw field_digits (omega arith)))
 
-pub loop-left-init : goal.loop-left-init
-loop-left-init c = (omega arith, search rules, refl)
+pub loop-k-init : goal.loop-k-init
+loop-k-init c = (omega arith, search rules, refl)

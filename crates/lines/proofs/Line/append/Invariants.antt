@@ -5,8 +5,5 @@ use Rattle.lines.specs.Building.{longest, laid}
 use Rattle.lines.proofs.BuildLaws.{hex}
 use Rattle.lines.proofs.Line.append.Given as goal
 
-abbrev pub invariant-loop-left : goal.invariant-loop-left
-invariant-loop-left l = (l.left ≤ 2 * l.width) × (length l.bytes ≡ longest) × (laid l.bytes l.at (hex l.left l.rest) ≡ laid l.initial.bytes l.at (hex (2 * l.width) l.value))
-
-abbrev pub decreases-loop-left : goal.decreases-loop-left
-decreases-loop-left l = l.left
+abbrev pub invariant-loop-k : goal.invariant-loop-k
+invariant-loop-k l = (l.k ≤ 2 * l.width) × (length l.bytes ≡ longest) × (laid l.bytes l.at (hex l.k l.rest) ≡ laid l.initial.bytes l.at (hex (2 * l.width) l.value))
