@@ -83,17 +83,13 @@ impl Line {
 pub fn put(text: &mut [u8], at: usize, line: Line) -> usize
     ensures { put_out result text.new ≡ put_of text.old at line }
 {
-    let len = line.len;
-    let n = if len < LONGEST { len } else { LONGEST };
+    let n = line.len.min(LONGEST);
     if text.len() < n {
         return at;
     }
     if text.len() - n < at {
         return at;
     }
-    let bytes = line.bytes;
-    for k in 0..n {
-        text[at + k] = bytes[k];
-    }
+    text[at..at + n].copy_from_slice(&line.bytes[..n]);
     at + n
 }

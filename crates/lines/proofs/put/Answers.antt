@@ -1,47 +1,54 @@
-use Prim.Native.Nat.{◌≤◌}
+use Prim.Native.Nat.{ℕ, ◌+◌, ◌-◌, ◌≤◌, min}
 use mathlib.Core.Path.{◌≡◌, sym, ◌∙◌}
-use native.Mathlib.Numerals.{add-one}
+use mathlib.Core.List.{List, append_assoc}
+use mathlib.Core.Logic.{◌⊎◌, ⊎_elim}
 use native.Mathlib.Omega.{arith}
 use borrow.Author.Rules.{rules}
+use borrow.Rule.Slice.PartMut.{put_mid}
 use lib.ListN.{length, take}
-use lib.Seq.{paste-zero, paste-suc, take_all, length-take-le}
+use lib.Seq.{take_all, length-take-le, drop-drop}
+use Rattle.lines.specs.declared.Line.{Line}
 use Rattle.lines.specs.Building.{longest, written, laid}
 use Rattle.lines.proofs.BuildLaws.{put_fits, put_not}
 use Rattle.lines.proofs.put.Goals as goal
-use Rattle.lines.proofs.put.Goals.{Joined-len-lt-LONGEST, then-len-lt-LONGEST, else-len-lt-LONGEST}
 
 -- n bytes of the line are written, all of them where its length is past its longest
-some : (c : Joined-len-lt-LONGEST)
-    → let l = c.args.line in
-    (written l ≡ take c.if-len-lt-LONGEST.n l.bytes) × (length l.bytes ≡ longest) × (c.if-len-lt-LONGEST.n ≤ longest)
+cut : (l : Line) (n : ℕ) → n ≡ min l.len longest → length l.bytes ≡ longest → written l ≡ take n l.bytes
 unfolding written
-some c =
-    let l = c.args.line in
-    let z : length l.bytes ≡ longest = search rules in
-    elim c.if-len-lt-LONGEST.branch [
-      | then-len-lt-LONGEST w ↦ (rw w.n-is, z, omega arith)
-      | else-len-lt-LONGEST w ↦ (rw w.n-is (take_all l.len l.bytes (omega arith) ∙ sym (take_all longest l.bytes (omega arith))), z, omega arith)
-    ]
+cut l n m z =
+    let either : (l.len ≤ longest) ⊎ (longest ≤ l.len) = grind arith in
+    ⊎_elim
+    (λ h. let e : n ≡ l.len = omega (arith, m, h) in rw e)
+    (λ h. take_all l.len l.bytes (omega (arith, h, z)) ∙ sym (take_all n l.bytes (omega (arith, m, h, z))))
+    either
 
-long : (c : Joined-len-lt-LONGEST) → length (take c.if-len-lt-LONGEST.n c.args.line.bytes) ≡ c.if-len-lt-LONGEST.n
-long c = length-take-le _ _ (omega (arith, some c))
+long : (l : Line) (n : ℕ) → n ≡ min l.len longest → length l.bytes ≡ longest → length (take n l.bytes) ≡ n
+long l n m z = length-take-le n l.bytes (omega (arith, m))
 
-pub loop-k-preserved : goal.loop-k-preserved
-loop-k-preserved c =
-    rw (c.loop-k.invariant, add-one)
-    (paste-suc c.args.text.now c.args.at c.args.line.bytes c.loop-k.k 0 (omega arith) (omega (arith, some (goal.at.loop-k-preserved c).Joined-len-lt-LONGEST)))
+part : (text t new : List ℕ) (at n : ℕ) → new ≡ t → length t ≡ n → put_mid at ((at + n) - at) text new ≡ laid text at t
+unfolding laid
+part text t new at n e h = let k : (at + n) - at ≡ n = omega arith in rw (e, h, k, append_assoc, drop-drop)
 
 pub returns : goal.returns
-unfolding laid
 returns c =
-    let e : c.loop-k.k ≡ c.if-len-lt-LONGEST.n = omega arith in
-    rw (c.loop-k.invariant, e, put_fits c.args.text.now c.args.at c.args.line (some (goal.at.returns c).Joined-len-lt-LONGEST).0 (rw (long (goal.at.returns c).Joined-len-lt-LONGEST) (omega arith)), long (goal.at.returns c).Joined-len-lt-LONGEST)
+    let a = c.args in
+    let m = c.min-n.ensures in
+    let n = c.min-n.result in
+    let z : length a.line.bytes ≡ longest = search rules in
+    let h = long a.line n m z in
+    let e = part a.text.now (take n a.line.bytes) c.copy_from_slice.new.self a.at n c.copy_from_slice.ensures.after h in
+    rw (put_fits a.text.now a.at a.line (cut a.line n m z) (rw h (omega arith)), h, e)
 
 pub returns-then-text-n : goal.returns-then-text-n
-returns-then-text-n c = sym (put_not _ _ _ (some (goal.at.returns-then-text-n c).Joined-len-lt-LONGEST).0 (rw (long (goal.at.returns-then-text-n c).Joined-len-lt-LONGEST) (omega arith)))
+returns-then-text-n c =
+    let a = c.args in
+    let m = c.min-n.ensures in
+    let z : length a.line.bytes ≡ longest = search rules in
+    sym (put_not _ _ _ (cut a.line c.min-n.result m z) (rw (long a.line c.min-n.result m z) (omega arith)))
 
 pub returns-then-text-n-2 : goal.returns-then-text-n-2
-returns-then-text-n-2 c = sym (put_not _ _ _ (some (goal.at.returns-then-text-n-2 c).Joined-len-lt-LONGEST).0 (rw (long (goal.at.returns-then-text-n-2 c).Joined-len-lt-LONGEST) (omega arith)))
-
-pub loop-k-init : goal.loop-k-init
-loop-k-init c = let a = c.args in paste-zero a.text.now a.at a.line.bytes
+returns-then-text-n-2 c =
+    let a = c.args in
+    let m = c.min-n.ensures in
+    let z : length a.line.bytes ≡ longest = search rules in
+    sym (put_not _ _ _ (cut a.line c.min-n.result m z) (rw (long a.line c.min-n.result m z) (omega arith)))
