@@ -1,20 +1,24 @@
 -- What the passes leave together, and the outcomes of `settle`.
 use Prim.Native.Nat.{ℕ, ◌+◌, ◌*◌, ◌<◌}
 use mathlib.Core.Path.{◌≡◌, refl, sym, ap, ◌∙◌}
-use mathlib.Core.Bool.{true, cond, ◌&&◌}
+use mathlib.Core.Bool.{Bool, true, false, cond, ◌&&◌}
 use mathlib.Core.List.{List, [], ◌∷◌}
 use native.Mathlib.Nat.{one-mul}
-use borrow.Author.Tests.{eqb-true, eq-eqb, ne_eqb}
+use borrow.Author.Tests.{eqb-true, eqb-false, eq-eqb, ne_eqb}
 use lib.Dec.{eqb, lit<}
 use lib.ListN.{length, get_or}
 use lib.Ieee.{Float, nan}
+use Rattle.std.specs.Prelude.{Ok, Err}
+use Rattle.std.specs.Result.{is_ok, IsErr}
 use Rattle.rows.specs.declared.Answer.{Answer}
 use Rattle.rows.specs.Numbers.{plus0}
 use Rattle.rows.specs.Scan.{accepted}
 use Rattle.lists.specs.Table.{table, zeros}
 use Rattle.lists.specs.Runs.{is_runs, in_run, runs_of}
 use Rattle.lists.specs.Private.{with_run}
-use Rattle.rows.proofs.ScanLaws.{row_holds, row_passed, other_number, both_left, both_right}
+use Rattle.rows.specs.Refusals.{answered}
+use Rattle.rows.proofs.ScanLaws.{row_holds, row_passed, both_left, both_right}
+use Rattle.rows.proofs.RefusalLaws.{Asked, answered_ok}
 use Rattle.lists.proofs.RunLaws.{run_read, run_put, run_same, runs_alike, as_runs}
 use Rattle.quantities.specs.declared.Parameters.{Parameters}
 use Rattle.mesh.specs.Lent.{Mesh, N}
@@ -87,6 +91,18 @@ room_lengths runs r n e = record {
 pub lengths_room : (runs : ℕ) (r : Rooms) (n : ℕ) → RoomLengths runs r n → row1_rooms_of runs r n ≡ accepted
 lengths_room runs r n h = row_holds 1 0 (λ i. eq-eqb _ _ h.next i && eq-eqb _ _ h.work i && eq-eqb _ _ (h.sums ∙ sym (one-mul n)) i)
 
+-- ---- an answer as a result
+pub accepting : (a : Asked) → is_ok a ≡ true → (answered a).number ≡ 0
+accepting a e = eqb-true _ _ (sym (answered_ok a) ∙ e)
+
+pub refusing : (a : Asked) → is_ok a ≡ false → (answered a).number ≡ 0 → ⊥
+refusing a e = eqb-false _ _ (sym (answered_ok a) ∙ e)
+
+-- a refusal that `?` hands back leaves what there was
+pub kept : (a : Asked) (new : List Float) {old : List Float} → IsErr a → old ≡ cond (is_ok a) new old
+kept (Ok _) new e = cc
+kept (Err _) new e = refl
+
 -- ---- the outcomes
 module _ (m : Mesh) (p : Parameters) (state f : List Float) (also : Answer) (r : Rooms) where
   abbrev pub asked : Answer
@@ -96,9 +112,9 @@ module _ (m : Mesh) (p : Parameters) (state f : List Float) (also : Answer) (r :
   its = given m p state (elevation_of f) (winds_of f)
 
   -- refused before anything is worked out
-  pub stopped : {a : Answer} → a ≡ asked → (a.number ≡ 0 → ⊥) → record { answer = a; rooms = r } ≡ settle_of m p state f also r
+  pub refused : {a : Answer} → a ≡ asked → (asked.number ≡ 0 → ⊥) → record { answer = a; rooms = r } ≡ settle_of m p state f also r
   unfolding settle_of settles_to
-  stopped e h = (λ i. record { answer = e i; rooms = r }) ∙ rw (ne_eqb _ _ (other_number e h))
+  refused e h = (λ i. record { answer = e i; rooms = r }) ∙ rw (ne_eqb _ _ h)
 
   module _ (ok : asked.number ≡ 0) where
     all : AcceptedForced (row1_rooms r (N m)) m p state also f
@@ -124,13 +140,14 @@ module _ (m : Mesh) (p : Parameters) (state f : List Float) (also : Answer) (r :
     sums_long = lengths.sums
 
     -- worked out: what is left is zero but for the next state
-    pub worked : {winds : List Float} {a : Answer} {next work : List Float} {sums : List ℕ} → winds ≡ winds_of f
+    pub worked : {winds : List Float} (a : Asked) {next work : List Float} {sums : List ℕ} → winds ≡ winds_of f
         → let g = given m p state (elevation_of f) winds in
-        a ≡ row13 g → next ≡ cond (eqb a.number 0) (next_state g) r.next → work ≡ zeros (work_runs * N m) → sums ≡ table (N m) (λ _. 0) → settled a next work sums ≡ settle_of m p state f also r
+        answered a ≡ row13 g → next ≡ cond (is_ok a) (next_state g) r.next → work ≡ zeros (work_runs * N m) → sums ≡ table (N m) (λ _. 0)
+        → settled (answered a) next work sums ≡ settle_of m p state f also r
     unfolding settle_of settles_to
-    worked {winds} q e en ew es =
+    worked {winds} a q e en ew es =
         let g = given m p state (elevation_of f) winds in
         let same : g ≡ its = λ i. given m p state (elevation_of f) (q i) in
         let answer = e ∙ ap row13 same in
-        let next = en ∙ (λ i. cond (eqb (answer i).number 0) (next_state (same i)) r.next) in
+        let next = en ∙ ap (λ (b : Bool). cond b (next_state g) r.next) (answered_ok a) ∙ (λ i. cond (eqb (answer i).number 0) (next_state (same i)) r.next) in
         (λ i. settled (answer i) (next i) (ew i) (es i)) ∙ rw (eq-eqb _ _ ok)

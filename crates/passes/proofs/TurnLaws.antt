@@ -10,16 +10,20 @@ use lib.ListN.{length, take, drop, length-append, length-drop}
 use lib.Ieee.{Float}
 use mir.Syntax.{w64}
 use mir.Val.{Fits}
-use Rattle.rows.specs.declared.Answer.{Answer}
-use Rattle.rows.specs.Scan.{accepted}
-use Rattle.rows.proofs.ScanLaws.{same_number, other_number, row_passed, then_first}
+use Rattle.std.specs.Result.{is_ok}
+use Rattle.rows.specs.Refusals.{answered}
+use Rattle.rows.specs.Scan.{accepted, ◌then◌}
+use Rattle.rows.proofs.RefusalLaws.{Asked}
+use Rattle.rows.proofs.ScanLaws.{same_number, other_number, row_passed, then_first, then_assoc}
 use Rattle.quantities.specs.declared.Parameters.{Parameters}
 use Rattle.limits.specs.Limits.{row11}
-use Rattle.mesh.specs.Lent.{Mesh}
-use Rattle.bounds.specs.Forcing.{forcing_length, forcing_at, forcings_of}
+use Rattle.mesh.specs.Lent.{Mesh, N}
+use Rattle.bounds.specs.Forcing.{forcing_length, forcing_at, forcings_of, row12}
 use Rattle.bounds.proofs.ListLaws.{count_forcings, forcing_within}
 use Rattle.passes.specs.Equations.{next_state}
+use Rattle.passes.specs.Row13.{row13}
 use Rattle.passes.specs.Private.{of_forcing, later_rows, onward_of, onward}
+use Rattle.passes.proofs.SettleLaws.{accepting, refusing}
 
 pub listed : (n : ℕ) (l : List Float) {j : ℕ} → j < length l / forcing_length n → j < length (forcings_of n l)
 listed n l h = rw (count_forcings n l) h
@@ -50,6 +54,11 @@ pub put_back : (k : ℕ) (part whole : List Float) → length part ≡ k → k �
 put_back k part whole e l = simp (length-append, length-drop) (omega (arith, e, l))
 
 -- ---- the turns
+-- what a turn asks, row by row
+pub later_lem : (m : Mesh) (p : Parameters) (step : ℕ) (f state : List Float) → (row11 step then row12 (N m) f then row13 (of_forcing m p f state)) ≡ later_rows m p step f state
+unfolding later_rows
+later_lem m p step f state = sym (then_assoc _ _ _)
+
 module _ (m : Mesh) (p : Parameters) (from : ℕ) (f : ℕ → List Float) (count : ℕ) where
   -- one turn less to go
   less : {j : ℕ} → j < count → count - j ≡ suc (count - (j + 1))
@@ -72,23 +81,26 @@ module _ (m : Mesh) (p : Parameters) (from : ℕ) (f : ℕ → List Float) (coun
       go true h = omega (arith, h)
       go false h = omega arith
 
-  module _ (j : ℕ) (l : j < count) (state : List Float) {a : Answer} (e : a ≡ later_rows m p (from + j) (f j) state) where
-    module _ {next : List Float} (q : next ≡ cond (eqb a.number 0) (next_state (of_forcing m p (f j) state)) state) where
-      pub onward_stop : (a.number ≡ 0 → ⊥) → onward m p from f (count - j) j state ≡ onward_of a j next
+  module _ (j : ℕ) (l : j < count) (state : List Float) (a : Asked) (e : answered a ≡ later_rows m p (from + j) (f j) state) where
+    abbrev new : List Float
+    new = next_state (of_forcing m p (f j) state)
+
+    module _ {next : List Float} (q : next ≡ cond (is_ok a) new state) where
+      pub onward_stop : is_ok a ≡ false → onward m p from f (count - j) j state ≡ onward_of (answered a) j next
       unfolding onward
       onward_stop h =
-          let same = q ∙ ap (λ (b : Bool). cond b (next_state (of_forcing m p (f j) state)) state) (ne_eqb _ _ h) in
-          rw (less l, ne_eqb _ 0 (other_number e h)) (λ i. onward_of (sym e i) j (sym same i))
+          let same = q ∙ ap (λ (b : Bool). cond b new state) h in
+          rw (less l, ne_eqb _ 0 (other_number e (refusing a h))) (λ i. onward_of (sym e i) j (sym same i))
 
-      pub onward_more : a.number ≡ 0 → onward m p from f (count - j) j state ≡ onward m p from f (count - (j + 1)) (j + 1) next
+      pub onward_more : is_ok a ≡ true → onward m p from f (count - j) j state ≡ onward m p from f (count - (j + 1)) (j + 1) next
       unfolding onward
       onward_more h =
-          let new = q ∙ ap (λ (b : Bool). cond b (next_state (of_forcing m p (f j) state)) state) (eq-eqb _ _ h) in
-          rw (less l, eq-eqb _ 0 (same_number e h)) (λ i. onward m p from f (count - (j + 1)) (j + 1) (sym new i))
+          let same = q ∙ ap (λ (b : Bool). cond b new state) h in
+          rw (less l, eq-eqb _ 0 (same_number e (accepting a h))) (λ i. onward m p from f (count - (j + 1)) (j + 1) (sym same i))
 
     -- row 11: the clock can count on
-    pub counts : a.number ≡ 0 → from + j ≡ 4294967295 → ⊥
+    pub counts : is_ok a ≡ true → from + j ≡ 4294967295 → ⊥
     unfolding later_rows row11
     counts h =
-        let may : not (eqb (from + j) 4294967295) ≡ true = row_passed _ 10 0 (then_first _ _ (then_first _ _ (same_number e h))) in
+        let may : not (eqb (from + j) 4294967295) ≡ true = row_passed _ 10 0 (then_first _ _ (then_first _ _ (same_number e (accepting a h)))) in
         eqb-false (from + j) 4294967295 (not-true (eqb (from + j) 4294967295) may)

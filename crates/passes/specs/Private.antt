@@ -13,13 +13,18 @@ use Rattle.quantities.specs.Operations.{◌⊕◌, less_if}
 use Rattle.triangle.specs.declared.Advection.{Advection}
 use Rattle.triangle.specs.Triangle.{slope}
 use Rattle.limits.specs.Limits.{row11}
-use Rattle.mesh.specs.Lent.{Mesh, N}
+use Rattle.mesh.specs.Lent.{Mesh, N, mesh_of}
 use Rattle.mesh.specs.Private.{Shaped}
 use Rattle.bounds.specs.State.{state_runs}
 use Rattle.bounds.specs.Forcing.{elevation_of, winds_of, row12}
+use Rattle.passes.specs.declared.state.Given as lent
 use Rattle.passes.specs.declared.velocities.Slope.{Slope}
 use Rattle.passes.specs.Equations.{Given, given, floating, count, R, rise, Px, Py, Au, Av, U', V', next_state}
 use Rattle.passes.specs.Row13.{row13}
+
+-- what a step reads, of the slices that hold it
+abbrev pub given_of : lent.Given → Given
+given_of g = given (mesh_of g.mesh) g.p g.state.now g.elevation g.winds.now
 
 -- what holds after the tests that come before anything is worked out
 pub record Fits (g : Given) : Type 0 where

@@ -9,22 +9,25 @@ pub(crate) mod turns;
 pub(crate) mod velocities;
 pub(crate) mod working;
 
-ghost use Rattle.std.specs.Prelude.{◌≡◌, cond, ◌&&◌, ◌+◌, ◌-◌, ◌*◌, ◌/◌, ◌<◌, ◌≤◌, eqb, length};
+ghost use Rattle.std.specs.Prelude.{◌≡◌, cond, is_ok, ◌&&◌, ◌+◌, ◌-◌, ◌*◌, ◌/◌, ◌<◌, ◌≤◌, length};
+ghost use Rattle.rows.specs.Refusals.{answered};
 ghost use Rattle.rows.specs.Scan.{accepted, row};
 ghost use Rattle.lists.specs.Table.{table, zeros};
 ghost use Rattle.lists.specs.Runs.{is_runs};
-ghost use Rattle.mesh.specs.Lent.{mesh};
+ghost use Rattle.mesh.specs.Lent.{mesh_of};
 ghost use Rattle.mesh.specs.Private.{Shaped};
 ghost use Rattle.bounds.specs.State.{state_runs, run_rows};
 ghost use Rattle.bounds.specs.Forcing.{forcing_length, forcing_at};
 ghost use Rattle.passes.specs.Settle.{work_runs, lent_rooms, settled, settle_of};
-ghost use Rattle.passes.specs.SettleAll.{turns, settle_all_of};
+ghost use Rattle.passes.specs.SettleAll.{progress_of, turns, settle_all_of};
 ghost use Rattle.passes.specs.Private.{onward_of, onward};
 
 use bounds::{STATE_RUNS, WIND_RUNS};
 use lists::slices;
+use mesh::Mesh;
 use quantities::Parameters;
-use rows::Answer;
+use rows::{Asked, Row};
+use state::Given;
 
 // The runs of a work room: R and then z', Px and then U', Py and then V', Au, Av.
 pub const WORK_RUNS: usize = 5;
@@ -35,19 +38,19 @@ pub const LIST_RUNS: usize = 11;
 // What a list hands back: the answer, the step number, and how many of its steps were accepted.
 #[derive(Clone, Copy)]
 pub struct Progress {
-    pub answer: Answer,
+    pub asked: Asked,
     pub step: u32,
     pub accepted: u32,
 }
 
 // Row 1 of the rooms, by their lengths, with so many runs of work room.
-fn rooms_row(next: usize, work: usize, sums: usize, runs: usize, n: usize) -> Answer
-    ensures { result ≡ row (is_runs next state_runs n && is_runs work runs n && is_runs sums 1 n) 1 0 }
+fn rooms_row(next: usize, work: usize, sums: usize, runs: usize, n: usize) -> Asked
+    ensures { answered result ≡ row (is_runs next state_runs n && is_runs work runs n && is_runs sums 1 n) 1 0 }
 {
     let all = slices::is_runs(next, STATE_RUNS, n)
         & slices::is_runs(work, runs, n)
         & slices::is_runs(sums, 1, n);
-    rows::tested(all, 1, 0)
+    rows::tested(all, Row::Lengths, 0)
 }
 
 // What a call on a run tests, then what else was tested and row 12 of the forcing, then row 13 and the next state in `next`. A refusal before 13 leaves
@@ -56,69 +59,45 @@ pub fn settle(
     next: &mut [f64],
     work: &mut [f64],
     sums: &mut [u64],
-    x: &[i32],
-    y: &[i32],
-    tri: &[u16],
-    h: &[f64],
-    kind: &[u8],
+    m: &Mesh<'_>,
     p: Parameters,
     state: &[f64],
     f: &[f64],
-    also: Answer,
-) -> Answer
-    ensures { settled result next.new work.new sums.new ≡ settle_of (mesh x.now y.now tri.now h.now kind.now) p state.now f.now also (lent_rooms next.old work.old sums.old) }
+    also: Asked,
+) -> Asked
+    ensures { settled (answered result) next.new work.new sums.new ≡ settle_of (mesh_of m.now) p state.now f.now (answered also) (lent_rooms next.old work.old sums.old) }
 {
-    let asked = rooms_row(next.len(), work.len(), sums.len(), WORK_RUNS, x.len());
-    let first = bounds::forced_rows(asked, x, y, tri, h, kind, p, state, also, f);
-    if first.number != 0 {
-        return first;
-    }
-    working::work_out(
-        next,
-        work,
-        sums,
-        x,
-        y,
-        tri,
-        h,
-        kind,
+    let rooms = rooms_row(next.len(), work.len(), sums.len(), WORK_RUNS, m.x.len());
+    bounds::forced_rows(rooms, m, p, state, also, f)?;
+    let g = Given {
+        mesh: *m,
         p,
         state,
-        f[0],
-        &f[1..],
-    )
+        elevation: f[0],
+        winds: &f[1..],
+    };
+    working::work_out(next, work, sums, &g)
 }
 
 // No step was accepted.
-fn unmoved(answer: Answer, step: u32) -> Progress
-    ensures { result ≡ record { answer = answer; step = step; accepted = 0 } }
+fn unmoved(asked: Asked, step: u32) -> Progress
+    ensures { result ≡ record { asked = asked; step = step; accepted = 0 } }
 {
     Progress {
-        answer,
+        asked,
         step,
         accepted: 0,
     }
 }
 
 // No forcing at all: the run's rows, and the state as it is.
-fn settle_none(
-    next: &mut [f64],
-    x: &[i32],
-    y: &[i32],
-    tri: &[u16],
-    h: &[f64],
-    kind: &[u8],
-    p: Parameters,
-    state: &[f64],
-) -> Answer
-    requires { length next.old ≡ state_runs * length x.now }
-    ensures { (result ≡ run_rows accepted (mesh x.now y.now tri.now h.now kind.now) p state.now) × (next.new ≡ cond (eqb result.number 0) state.now next.old) }
+fn settle_none(next: &mut [f64], m: &Mesh<'_>, p: Parameters, state: &[f64]) -> Asked
+    requires { length next.old ≡ state_runs * length m.now.x.now }
+    ensures { (answered result ≡ run_rows accepted (mesh_of m.now) p state.now) × (next.new ≡ cond (is_ok result) state.now next.old) }
 {
-    let answer = bounds::run_rows(rows::accept(), x, y, tri, h, kind, p, state);
-    if answer.number == 0 {
-        slices::copy(next, state);
-    }
-    answer
+    bounds::run_rows(Ok(()), m, p, state)?;
+    slices::copy(next, state);
+    Ok(())
 }
 
 // The forcings past the first, from the state after that one.
@@ -126,31 +105,26 @@ fn further(
     next: &mut [f64],
     work: &mut [f64],
     sums: &mut [u64],
-    x: &[i32],
-    y: &[i32],
-    tri: &[u16],
-    h: &[f64],
-    kind: &[u8],
+    m: &Mesh<'_>,
     p: Parameters,
     list: &[f64],
     from: u32,
 ) -> Progress
-    requires shaped { Shaped (mesh x.now y.now tri.now h.now kind.now) }
-    requires next_len { (length next.old ≡ state_runs * length x.now) × (length work.old ≡ work_runs * length x.now) × (length sums.old ≡ length x.now) }
-    requires from_bound { (from < 4294967295) × (1 ≤ length list.now / forcing_length (length x.now)) }
-    ensures { (result.step ≡ from + result.accepted) × (onward_of result.answer result.accepted next.new ≡ onward (mesh x.now y.now tri.now h.now kind.now) p from (forcing_at (length x.now) list.now) (length list.now / forcing_length (length x.now) - 1) 1 next.old) }
+    requires shaped { Shaped (mesh_of m.now) }
+    requires next_len { let n = length m.now.x.now in (length next.old ≡ state_runs * n) × (length work.old ≡ work_runs * n) × (length sums.old ≡ n) }
+    requires from_bound { (from < 4294967295) × (1 ≤ length list.now / forcing_length (length m.now.x.now)) }
+    ensures { let n = length m.now.x.now in (result.step ≡ from + result.accepted) × (onward_of (answered result.asked) result.accepted next.new ≡ onward (mesh_of m.now) p from (forcing_at n list.now) (length list.now / forcing_length n - 1) 1 next.old) }
 {
-    let long = 1 + WIND_RUNS * x.len();
+    let long = 1 + WIND_RUNS * m.x.len();
     let count = list.len() / long;
     let mut step = from + 1;
     for j in 1..count {
         let here = j * long;
         let past = here + long;
-        let f = &list[here..past];
-        let answer = turns::go_on(next, work, sums, x, y, tri, h, kind, p, f, step);
-        if answer.number != 0 {
+        let asked = turns::go_on(next, work, sums, m, p, &list[here..past], step);
+        if asked.is_err() {
             return Progress {
-                answer,
+                asked,
                 step,
                 accepted: step - from,
             };
@@ -158,7 +132,7 @@ fn further(
         step = step + 1;
     }
     Progress {
-        answer: rows::accept(),
+        asked: Ok(()),
         step,
         accepted: step - from,
     }
@@ -169,35 +143,19 @@ fn rest_of(
     next: &mut [f64],
     work: &mut [f64],
     sums: &mut [u64],
-    x: &[i32],
-    y: &[i32],
-    tri: &[u16],
-    h: &[f64],
-    kind: &[u8],
+    m: &Mesh<'_>,
     p: Parameters,
     list: &[f64],
     from: u32,
 ) -> Progress
-    requires shaped { Shaped (mesh x.now y.now tri.now h.now kind.now) }
-    requires next_len { (length next.old ≡ state_runs * length x.now) × (work_runs * length x.now ≤ length work.old) × (length sums.old ≡ length x.now) }
-    requires from_bound { (from < 4294967295) × (1 ≤ length list.now / forcing_length (length x.now)) }
-    ensures step_value { (result.step ≡ from + result.accepted) × (onward_of result.answer result.accepted next.new ≡ onward (mesh x.now y.now tri.now h.now kind.now) p from (forcing_at (length x.now) list.now) (length list.now / forcing_length (length x.now) - 1) 1 next.old) }
+    requires shaped { Shaped (mesh_of m.now) }
+    requires next_len { let n = length m.now.x.now in (length next.old ≡ state_runs * n) × (work_runs * n ≤ length work.old) × (length sums.old ≡ n) }
+    requires from_bound { (from < 4294967295) × (1 ≤ length list.now / forcing_length (length m.now.x.now)) }
+    ensures step_value { let n = length m.now.x.now in (result.step ≡ from + result.accepted) × (onward_of (answered result.asked) result.accepted next.new ≡ onward (mesh_of m.now) p from (forcing_at n list.now) (length list.now / forcing_length n - 1) 1 next.old) }
     ensures work_after { (work.new ≡ zeros (length work.old)) × (sums.new ≡ table (length sums.old) (λ _. 0)) }
 {
-    let own = WORK_RUNS * x.len();
-    let made = further(
-        next,
-        &mut work[..own],
-        sums,
-        x,
-        y,
-        tri,
-        h,
-        kind,
-        p,
-        list,
-        from,
-    );
+    let own = WORK_RUNS * m.x.len();
+    let made = further(next, &mut work[..own], sums, m, p, list, from);
     slices::clear(work);
     slices::clear_whole(sums);
     made
@@ -209,26 +167,22 @@ pub fn settle_all(
     next: &mut [f64],
     work: &mut [f64],
     sums: &mut [u64],
-    x: &[i32],
-    y: &[i32],
-    tri: &[u16],
-    h: &[f64],
-    kind: &[u8],
+    m: &Mesh<'_>,
     p: Parameters,
     state: &[f64],
     list: &[f64],
     step: u32,
 ) -> Progress
-    ensures { turns result next.new work.new sums.new ≡ settle_all_of (mesh x.now y.now tri.now h.now kind.now) p state.now step list.now (lent_rooms next.old work.old sums.old) }
+    ensures { turns (progress_of result) next.new work.new sums.new ≡ settle_all_of (mesh_of m.now) p state.now step list.now (lent_rooms next.old work.old sums.old) }
 {
-    let n = x.len();
-    let lent = rooms_row(next.len(), work.len(), sums.len(), LIST_RUNS, n);
-    let asked = bounds::list_rows(lent, x, list);
-    if asked.number != 0 {
+    let n = m.x.len();
+    let rooms = rooms_row(next.len(), work.len(), sums.len(), LIST_RUNS, n);
+    let asked = bounds::list_rows(rooms, m, list);
+    if asked.is_err() {
         return unmoved(asked, step);
     }
     if list.len() == 0 {
-        return unmoved(settle_none(next, x, y, tri, h, kind, p, state), step);
+        return unmoved(settle_none(next, m, p, state), step);
     }
     let long = 1 + WIND_RUNS * n;
     let own = WORK_RUNS * n;
@@ -236,18 +190,14 @@ pub fn settle_all(
         next,
         &mut work[..own],
         sums,
-        x,
-        y,
-        tri,
-        h,
-        kind,
+        m,
         p,
         state,
         &list[..long],
         limits::may_count(step),
     );
-    if first.number != 0 {
+    if first.is_err() {
         return unmoved(first, step);
     }
-    rest_of(next, work, sums, x, y, tri, h, kind, p, list, step)
+    rest_of(next, work, sums, m, p, list, step)
 }

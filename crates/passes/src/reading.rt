@@ -7,23 +7,21 @@ ghost use Rattle.lists.specs.Private.{Below};
 ghost use Rattle.mesh.specs.Geometry.{places_of};
 
 use geometry::{Corners, Places, WholeSides};
+use mesh::Mesh;
 use quantities::Sides;
 
 // The coordinates of a triangle's corners.
-pub(crate) fn places_at(x: &[i32], y: &[i32], c: Corners) -> Places
-    requires { (length y.now ≡ length x.now) × Below (nodes_of c) (length x.now) }
-    ensures { result ≡ places_of x.now y.now (nodes_of c) }
+pub(crate) fn places_at(m: &Mesh<'_>, c: Corners) -> Places
+    requires { (length m.now.y.now ≡ length m.now.x.now) × Below (nodes_of c) (length m.now.x.now) }
+    ensures { result ≡ places_of m.now.x.now m.now.y.now (nodes_of c) }
 {
-    let i = c.n1;
-    let j = c.n2;
-    let k = c.n3;
     Places {
-        x1: x[i],
-        x2: x[j],
-        x3: x[k],
-        y1: y[i],
-        y2: y[j],
-        y3: y[k],
+        x1: m.x[c.n1],
+        x2: m.x[c.n2],
+        x3: m.x[c.n3],
+        y1: m.y[c.n1],
+        y2: m.y[c.n2],
+        y3: m.y[c.n3],
     }
 }
 

@@ -2,23 +2,28 @@
 ghost use Rattle.std.specs.Prelude.{◌≡◌, ◌*◌, ◌<◌, length, get_or, pos};
 ghost use Rattle.std.specs.Float.{binary64};
 ghost use Rattle.std.specs.Float.Ieee.{of_int};
+ghost use Rattle.rows.specs.Refusals.{answered};
+ghost use Rattle.rows.specs.Scan.{scan};
 ghost use Rattle.lists.specs.Table.{table};
+ghost use Rattle.lists.specs.Runs.{in_run};
 ghost use Rattle.lists.specs.Private.{Below};
 ghost use Rattle.quantities.specs.Operations.{less_if};
 ghost use Rattle.velocity.specs.Velocity.{flow_of, push_of};
 ghost use Rattle.geometry.specs.Geometry.{nodes_of};
-ghost use Rattle.mesh.specs.Lent.{mesh};
 ghost use Rattle.bounds.specs.State.{state_runs, node_of};
 ghost use Rattle.bounds.specs.Forcing.{wind_runs, wind_at};
-ghost use Rattle.passes.specs.Equations.{Given, given, count, S};
+ghost use Rattle.passes.specs.Equations.{count, S};
+ghost use Rattle.outcomes.specs.Outcomes.{flow_row};
 ghost use Rattle.passes.specs.Row13.{flow_rows};
 ghost use Rattle.passes.specs.Settle.{work_runs};
-ghost use Rattle.passes.specs.Private.{Fits, both_of, slope_of, rise_room, slope_room, flow_room};
+ghost use Rattle.passes.specs.Private.{given_of, Fits, both_of, slope_of, rise_room, slope_room, flow_room};
 
+use super::state::Given;
 use super::{reading, state, sums};
 use geometry::Corners;
+use mesh::Mesh;
 use quantities::{Flow, Parameters, Sides};
-use rows::Answer;
+use rows::Asked;
 
 // What a triangle adds to Px and to Py of its corners.
 #[derive(Clone, Copy)]
@@ -48,27 +53,17 @@ fn slope_of(n: usize, state: &[f64], work: &[f64], c: Corners, s: Sides) -> Slop
 }
 
 // Px and Py of every node in the second and the third run of the work room, from zero.
-pub(crate) fn slopes(
-    work: &mut [f64],
-    x: &[i32],
-    y: &[i32],
-    tri: &[u16],
-    h: &[f64],
-    kind: &[u8],
-    p: Parameters,
-    state: &[f64],
-    elevation: f64,
-    winds: &[f64],
-)
-    requires fits { let g : Given = given (mesh x.now y.now tri.now h.now kind.now) p state.now elevation winds.now in Fits g }
-    requires work_value { let g : Given = given (mesh x.now y.now tri.now h.now kind.now) p state.now elevation winds.now in work.old ≡ rise_room g }
-    ensures { let g : Given = given (mesh x.now y.now tri.now h.now kind.now) p state.now elevation winds.now in work.new ≡ slope_room g }
+pub(crate) fn slopes(work: &mut [f64], g: &Given<'_>)
+    requires fits { Fits (given_of g.now) }
+    requires work_value { work.old ≡ rise_room (given_of g.now) }
+    ensures { work.new ≡ slope_room (given_of g.now) }
 {
-    let n = x.len();
-    let e = tri.len() / 3;
+    let Given { mesh, state, .. } = *g;
+    let n = mesh.x.len();
+    let e = mesh.tri.len() / 3;
     for t in 0..e {
-        let c = mesh::reading::corners_at(tri, t);
-        let s = reading::floats_of(geometry::sides_of(reading::places_at(x, y, c)));
+        let c = mesh::reading::corners_at(&mesh, t);
+        let s = reading::floats_of(geometry::sides_of(reading::places_at(&mesh, c)));
         let v = slope_of(n, state, work, c, s);
         sums::spread(work, 1 * n, c, sums::alike(v.x));
         sums::spread(work, 2 * n, c, sums::alike(v.y));
@@ -101,41 +96,21 @@ fn flow_at(
     velocity::flow_of(p, kind[i], c, new, s, rise, px, py, au, av)
 }
 
-// Row 13 of U' and V', where some node is refused: the first of them.
-pub(crate) fn refused_flow(n: usize, work: &[f64]) -> Answer
-    requires { length work.now ≡ work_runs * n }
-    ensures { (g : Given) → work.now ≡ flow_room g → n ≡ count g → result ≡ flow_rows g }
-{
-    for i in 0..n {
-        let u = work[1 * n + i];
-        let v = work[2 * n + i];
-        let answer = outcomes::flow_row(Flow { u, v }, i);
-        if answer.number != 0 {
-            return answer;
-        }
-    }
-    rows::accept()
-}
-
 // Px and Py of every node become its U' and V', and row 13 is tested on them, likewise.
-pub(crate) fn flows(
-    work: &mut [f64],
-    sums: &[u64],
-    x: &[i32],
-    y: &[i32],
-    tri: &[u16],
-    h: &[f64],
-    kind: &[u8],
-    p: Parameters,
-    state: &[f64],
-    elevation: f64,
-    winds: &[f64],
-) -> Answer
-    requires fits { let g : Given = given (mesh x.now y.now tri.now h.now kind.now) p state.now elevation winds.now in Fits g }
-    requires work_value { let g : Given = given (mesh x.now y.now tri.now h.now kind.now) p state.now elevation winds.now in (work.old ≡ slope_room g) × (sums.now ≡ table (count g) (S g)) × (length winds.now ≡ wind_runs * count g) }
-    ensures { let g : Given = given (mesh x.now y.now tri.now h.now kind.now) p state.now elevation winds.now in (result ≡ flow_rows g) × (work.new ≡ flow_room g) }
+pub(crate) fn flows(work: &mut [f64], sums: &[u64], g: &Given<'_>) -> Asked
+    requires fits { Fits (given_of g.now) }
+    requires work_value { let its = given_of g.now in (work.old ≡ slope_room its) × (sums.now ≡ table (count its) (S its)) × (length its.winds ≡ wind_runs * count its) }
+    ensures { let its = given_of g.now in (answered result ≡ flow_rows its) × (work.new ≡ flow_room its) }
 {
-    let n = x.len();
+    let Given {
+        mesh,
+        p,
+        state,
+        winds,
+        ..
+    } = *g;
+    let Mesh { h, kind, .. } = mesh;
+    let n = mesh.x.len();
     let mut all = true;
     for i in 0..n {
         let z = work[0 * n + i];
@@ -146,11 +121,27 @@ pub(crate) fn flows(
         let v = flow_at(n, h, kind, p, state, winds, sums, z, px, py, au, av, i);
         work[1 * n + i] = v.u;
         work[2 * n + i] = v.v;
-        all = all & (outcomes::flow_row(v, i).number == 0);
+        all = all & outcomes::flow_row(v, i).is_ok();
     }
     if all {
-        rows::accept()
-    } else {
-        refused_flow(n, work)
+        return Ok(());
     }
+    refused_flow(n, work)
+}
+
+// The first node whose U' or V' row 13 refuses.
+fn refused_flow(n: usize, work: &[f64]) -> Asked
+    requires { length work.now ≡ work_runs * n }
+    ensures { answered result ≡ scan (λ i. flow_row (record { u = in_run n 1 work.now i; v = in_run n 2 work.now i }) i) n }
+{
+    rows::scan(
+        n,
+        |i| outcomes::flow_row(
+            Flow {
+                u: work[1 * n + i],
+                v: work[2 * n + i],
+            },
+            i,
+        ),
+    )
 }

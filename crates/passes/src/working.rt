@@ -1,47 +1,32 @@
 // Row 13 and the next state, once all before them has been asked: the passes one after the other.
-ghost use Rattle.std.specs.Prelude.{◌≡◌, cond, [], ◌∷◌, suc, ◌*◌, ◌≤◌, eqb, length};
+ghost use Rattle.std.specs.Prelude.{◌≡◌, cond, is_ok, IsOk, [], ◌∷◌, suc, ◌*◌, ◌≤◌, length};
+ghost use Rattle.rows.specs.Refusals.{answered};
 ghost use Rattle.lists.specs.Table.{table, zeros};
 ghost use Rattle.lists.specs.Runs.{in_run, runs_of};
 ghost use Rattle.lists.specs.Private.{with_run};
-ghost use Rattle.mesh.specs.Lent.{mesh};
 ghost use Rattle.bounds.specs.State.{state_runs};
 ghost use Rattle.bounds.specs.Forcing.{wind_runs};
-ghost use Rattle.passes.specs.Equations.{Given, given, count, next_state};
+ghost use Rattle.passes.specs.Equations.{count, next_state};
 ghost use Rattle.passes.specs.Row13.{row13};
 ghost use Rattle.passes.specs.Settle.{work_runs};
-ghost use Rattle.passes.specs.Private.{Fits, flow_room, with_new};
+ghost use Rattle.passes.specs.Private.{given_of, Fits, flow_room, with_new};
 
+use super::state::Given;
 use super::{elevations, velocities};
 use lists::slices;
-use quantities::Parameters;
-use rows::Answer;
+use rows::Asked;
 
 // Row 13, with z', U' and V' of every node in the work room where it accepts. Every pass is lent all that a step reads, so that its contract can
 // name it as one.
-pub(crate) fn solve(
-    work: &mut [f64],
-    sums: &mut [u64],
-    x: &[i32],
-    y: &[i32],
-    tri: &[u16],
-    h: &[f64],
-    kind: &[u8],
-    p: Parameters,
-    state: &[f64],
-    elevation: f64,
-    winds: &[f64],
-) -> Answer
-    requires fits { let g : Given = given (mesh x.now y.now tri.now h.now kind.now) p state.now elevation winds.now in Fits g }
-    requires work_len { let g : Given = given (mesh x.now y.now tri.now h.now kind.now) p state.now elevation winds.now in (length work.old ≡ work_runs * count g) × (length sums.old ≡ count g) × (length winds.now ≡ wind_runs * count g) }
-    ensures { let g : Given = given (mesh x.now y.now tri.now h.now kind.now) p state.now elevation winds.now in (result ≡ row13 g) × (result.number ≡ 0 → work.new ≡ flow_room g) }
+pub(crate) fn solve(work: &mut [f64], sums: &mut [u64], g: &Given<'_>) -> Asked
+    requires fits { Fits (given_of g.now) }
+    requires work_len { let its = given_of g.now in (length work.old ≡ work_runs * count its) × (length sums.old ≡ count its) × (length its.winds ≡ wind_runs * count its) }
+    ensures { let its = given_of g.now in (answered result ≡ row13 its) × (IsOk result → work.new ≡ flow_room its) }
 {
-    elevations::assemble(work, sums, x, y, tri, h, kind, p, state, elevation, winds);
-    let rise = elevations::rises(work, sums, x, y, tri, h, kind, p, state, elevation, winds);
-    if rise.number != 0 {
-        return rise;
-    }
-    velocities::slopes(work, x, y, tri, h, kind, p, state, elevation, winds);
-    velocities::flows(work, sums, x, y, tri, h, kind, p, state, elevation, winds)
+    elevations::assemble(work, sums, g);
+    elevations::rises(work, sums, g)?;
+    velocities::slopes(work, g);
+    velocities::flows(work, sums, g)
 }
 
 // Run b of `from` into run a of `to`.
@@ -78,30 +63,17 @@ fn publish(next: &mut [f64], n: usize, state: &[f64], work: &[f64], winds: &[f64
 }
 
 // Row 13, and the next state where it accepts. The work room is left zero.
-pub(crate) fn work_out(
-    next: &mut [f64],
-    work: &mut [f64],
-    sums: &mut [u64],
-    x: &[i32],
-    y: &[i32],
-    tri: &[u16],
-    h: &[f64],
-    kind: &[u8],
-    p: Parameters,
-    state: &[f64],
-    elevation: f64,
-    winds: &[f64],
-) -> Answer
-    requires fits { let g : Given = given (mesh x.now y.now tri.now h.now kind.now) p state.now elevation winds.now in Fits g }
-    requires next_len { let g : Given = given (mesh x.now y.now tri.now h.now kind.now) p state.now elevation winds.now in (length next.old ≡ state_runs * count g) × (length work.old ≡ work_runs * count g) × (length sums.old ≡ count g) × (length winds.now ≡ wind_runs * count g) }
-    ensures value { let g : Given = given (mesh x.now y.now tri.now h.now kind.now) p state.now elevation winds.now in (result ≡ row13 g) × (next.new ≡ cond (eqb result.number 0) (next_state g) next.old) }
-    ensures work_after { let g : Given = given (mesh x.now y.now tri.now h.now kind.now) p state.now elevation winds.now in (work.new ≡ zeros (work_runs * count g)) × (sums.new ≡ table (count g) (λ _. 0)) }
+pub(crate) fn work_out(next: &mut [f64], work: &mut [f64], sums: &mut [u64], g: &Given<'_>) -> Asked
+    requires fits { Fits (given_of g.now) }
+    requires next_len { let its = given_of g.now in (length next.old ≡ state_runs * count its) × (length work.old ≡ work_runs * count its) × (length sums.old ≡ count its) × (length its.winds ≡ wind_runs * count its) }
+    ensures value { let its = given_of g.now in (answered result ≡ row13 its) × (next.new ≡ cond (is_ok result) (next_state its) next.old) }
+    ensures work_after { let n = count (given_of g.now) in (work.new ≡ zeros (work_runs * n)) × (sums.new ≡ table n (λ _. 0)) }
 {
-    let answer = solve(work, sums, x, y, tri, h, kind, p, state, elevation, winds);
-    if answer.number == 0 {
-        publish(next, x.len(), state, work, winds);
+    let asked = solve(work, sums, g);
+    if asked.is_ok() {
+        publish(next, g.mesh.x.len(), g.state, work, g.winds);
     }
     slices::clear(work);
     slices::clear_whole(sums);
-    answer
+    asked
 }

@@ -14,7 +14,7 @@ further-made-requires c =
 pub returns : goal.returns
 returns c =
     let fits = c.requires.next_len.1 in
-    let whole = put_back (work_runs * length c.args.x.now) c.further-made.new.work c.args.work.now (c.further-made.auto.work ∙ length-take-le _ _ fits) fits in
+    let whole = put_back (work_runs * length c.args.m.now.x.now) c.further-made.new.work c.args.work.now (c.further-made.auto.work ∙ length-take-le _ _ fits) fits in
     record { step_value = c.further-made.ensures; work_after = (c.clear.ensures ∙ ap zeros whole, c.clear_whole.ensures ∙ ap (λ (n : ℕ). table n (λ _. 0)) c.further-made.auto.sums) }
 
 pub slice_bounds-further-end : goal.slice_bounds-further-end

@@ -9,32 +9,32 @@ use Rattle.lists.specs.Private.{past, spread}
 use Rattle.lists.proofs.TableLaws.{length_table}
 use Rattle.lists.proofs.RunLaws.{runs_length}
 use Rattle.geometry.specs.Geometry.{nodes_of}
-use Rattle.mesh.specs.Lent.{mesh, E}
+use Rattle.mesh.specs.Lent.{E}
 use Rattle.mesh.proofs.SideLaws.{corners_read}
-use Rattle.passes.specs.Equations.{Given, given, count, corners_of, floating, three_of}
+use Rattle.passes.specs.Equations.{Given, count, corners_of, floating, three_of}
 use Rattle.passes.specs.Settle.{work_runs}
-use Rattle.passes.specs.Private.{Fits}
+use Rattle.passes.specs.Private.{given_of, Fits}
 use Rattle.passes.proofs.PassLaws.{run_fits, sums_to, S_to, in_run_lem, inside, its_near, its_turn, its_floats, its_area, its_means, its_shares, sum_more, area_more, S_room, sum_none, S_none}
 use Rattle.passes.proofs.SettleLaws.{cleared_room}
 use Rattle.passes.proofs.elevations.assemble.Goals as goal
 use Rattle.passes.proofs.elevations.assemble.Goals.{After-corners_at-c, At-loop-t, In-loop-t, Start}
 
 abbrev its : Start → Given
-its s = let a = s.args in given (mesh a.x.now a.y.now a.tri.now a.h.now a.kind.now) a.p a.state.now a.elevation a.winds.now
+its s = given_of s.args.g.now
 
 abbrev here : At-loop-t → Given
-here l = let a = l.args in given (mesh a.x.now a.y.now a.tri.now a.h.now a.kind.now) a.p a.state.now a.elevation a.winds.now
+here l = given_of l.args.g.now
 
 abbrev read : After-corners_at-c → Given
-read c = let a = c.args in given (mesh a.x.now a.y.now a.tri.now a.h.now a.kind.now) a.p a.state.now a.elevation a.winds.now
+read c = given_of c.args.g.now
 
 fits : (l : At-loop-t) → Fits (here l)
 fits l = l.requires.fits
 
-long : (l : At-loop-t) → length l.loop-t.work ≡ work_runs * length l.args.x.now
+long : (l : At-loop-t) → length l.loop-t.work ≡ work_runs * length l.args.g.now.mesh.x.now
 long l = ap length l.loop-t.invariant.1.0 ∙ runs_length _ _
 
-sums_long : (l : At-loop-t) → length l.loop-t.sums ≡ length l.args.x.now
+sums_long : (l : At-loop-t) → length l.loop-t.sums ≡ length l.args.g.now.mesh.x.now
 sums_long l = ap length l.loop-t.invariant.1.1 ∙ length_table _ _
 
 -- the corners that were read are those of triangle t
@@ -93,7 +93,7 @@ spread_area-requires c =
 pub loop-t-preserved : goal.loop-t-preserved
 loop-t-preserved c =
     let w = goal.at.loop-t-preserved c in
-    let n = length c.args.x.now in
+    let n = length c.args.g.now.mesh.x.now in
     let at = nodes_of c.corners_at-c.result in
     let h = c.loop-t-test.true in
     let z = fits w.At-loop-t in

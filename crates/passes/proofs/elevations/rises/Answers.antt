@@ -7,15 +7,15 @@ use lib.Dec.{eqb}
 use lib.ListN.{length}
 use Rattle.rows.specs.declared.Answer.{Answer}
 use Rattle.rows.specs.Scan.{scan}
+use Rattle.rows.proofs.RefusalLaws.{answered_ok}
 use Rattle.rows.proofs.ScanLaws.{all_none, all_more, all_accept}
 use Rattle.lists.proofs.TableLaws.{length_table}
 use Rattle.lists.proofs.RunLaws.{runs_length}
-use Rattle.mesh.specs.Lent.{mesh}
-use Rattle.passes.specs.Equations.{Given, given, count, node, rise}
+use Rattle.passes.specs.Equations.{Given, count, node, rise}
 use Rattle.outcomes.specs.Outcomes.{rise_row}
 use Rattle.passes.specs.Settle.{work_runs}
-use Rattle.passes.specs.Private.{Fits, rise_room}
-use Rattle.passes.proofs.PassLaws.{Place, place, rises_to, its_rise, rise_more, rise_none, rise_all}
+use Rattle.passes.specs.Private.{given_of, Fits, rise_room}
+use Rattle.passes.proofs.PassLaws.{rises_read, Place, place, rises_to, its_rise, rise_more, rise_none, rise_all}
 use Rattle.passes.proofs.elevations.rises.Goals as goal
 use Rattle.passes.proofs.elevations.rises.Goals.{After-loop-i, At-loop-i, In-loop-i, Start}
 
@@ -24,19 +24,19 @@ abbrev row_at : Given → ℕ → Answer
 row_at g i = rise_row (node g i).h (rise g i) i
 
 abbrev its : Start → Given
-its s = let a = s.args in given (mesh a.x.now a.y.now a.tri.now a.h.now a.kind.now) a.p a.state.now a.elevation a.winds.now
+its s = given_of s.args.g.now
 
 abbrev here : At-loop-i → Given
-here l = let a = l.args in given (mesh a.x.now a.y.now a.tri.now a.h.now a.kind.now) a.p a.state.now a.elevation a.winds.now
+here l = given_of l.args.g.now
 
 fits : (l : At-loop-i) → Fits (here l)
 fits l = l.requires.fits
 
-long : (l : At-loop-i) → length l.loop-i.work ≡ work_runs * length l.args.x.now
+long : (l : At-loop-i) → length l.loop-i.work ≡ work_runs * length l.args.g.now.mesh.x.now
 long l = ap length l.loop-i.invariant.1.0 ∙ runs_length _ _
 
 abbrev last : After-loop-i → Given
-last c = let a = c.args in given (mesh a.x.now a.y.now a.tri.now a.h.now a.kind.now) a.p a.state.now a.elevation a.winds.now
+last c = given_of c.args.g.now
 
 -- after the last turn every z' stands in the room
 done : (c : After-loop-i) → c.loop-i.i ≡ count (last c)
@@ -48,12 +48,12 @@ all c = c.loop-i.invariant.1.0 ∙ ap (rises_to (last c)) (done c) ∙ rise_all 
 -- place i of the sums, and of the run of z'
 in-sums : (t : In-loop-i) → t.loop-i.i < length t.args.sums.now
 in-sums t =
-    let sums_long : length t.args.sums.now ≡ length t.args.x.now = ap length t.requires.work_value.1 ∙ length_table _ _ in
+    let sums_long : length t.args.sums.now ≡ length t.args.g.now.mesh.x.now = ap length t.requires.work_value.1 ∙ length_table _ _ in
     below_length ℕ t.args.sums.now _ _ sums_long t.loop-i-test.true
 
-at : (t : In-loop-i) → Place 0 (length t.args.x.now) t.loop-i.i (length t.loop-i.work)
+at : (t : In-loop-i) → Place 0 (length t.args.g.now.mesh.x.now) t.loop-i.i (length t.loop-i.work)
 at t =
-    let long : length t.loop-i.work ≡ work_runs * length t.args.x.now = ap length t.loop-i.invariant.1.0 ∙ runs_length _ _ in
+    let long : length t.loop-i.work ≡ work_runs * length t.args.g.now.mesh.x.now = ap length t.loop-i.invariant.1.0 ∙ runs_length _ _ in
     place 0 work_runs tt t.loop-i-test.true long t.loop-i.auto.work t.well_formed.0.1
 
 pub loop-i-init : goal.loop-i-init
@@ -67,17 +67,18 @@ loop-i-preserved c =
     let h = c.loop-i-test.true in
     let r = its_rise g (fits w.At-loop-i) i h c.requires.work_value.1 c.loop-i.invariant.1.0 c.node_of-c.ensures c.sum_of-s.ensures c.rise_of-z.ensures in
     let asked = c.rise_row.ensures ∙ (λ j. rise_row (c.node_of-c.ensures j).h (r j) i) in
-    (omega arith, (rise_more g (fits w.At-loop-i) i h c.loop-i.invariant.1.0 r, all_more (row_at g) i c.loop-i.invariant.1.1 (ap (λ (a : Answer). eqb a.number 0) asked)))
+    let holds = c.is_ok-all.ensures.value ∙ answered_ok _ ∙ ap (λ (a : Answer). eqb a.number 0) asked in
+    (omega arith, (rise_more g (fits w.At-loop-i) i h c.loop-i.invariant.1.0 r, all_more (row_at g) i c.loop-i.invariant.1.1 holds))
 
 pub returns-then-all : goal.returns-then-all
 returns-then-all c =
     let w = goal.at.returns-then-all c in
-    (c.accept.ensures ∙ all_accept (row_at (here w.At-loop-i)) _ c.loop-i.invariant.1.1 c.if-all.true ∙ ap (scan _) (done w.After-loop-i), all w.After-loop-i)
+    (all_accept (row_at (here w.At-loop-i)) _ c.loop-i.invariant.1.1 c.if-all.true ∙ ap (scan _) (done w.After-loop-i), all w.After-loop-i)
 
-pub returns-else-all : goal.returns-else-all
-returns-else-all c =
-    let w = goal.at.returns-else-all c in
-    (c.refused_rise.ensures (here w.At-loop-i) refl (all w.After-loop-i) refl, all w.After-loop-i)
+pub returns : goal.returns
+returns c =
+    let w = goal.at.returns c in
+    (c.refused_rise.ensures ∙ rises_read (here w.At-loop-i) refl (all w.After-loop-i) refl, all w.After-loop-i)
 
 pub node_of-c-requires : goal.node_of-c-requires
 node_of-c-requires c = let z = fits (goal.at.node_of-c-requires c).At-loop-i in (c.loop-i-test.true, z.shape.sized.h, z.state)
@@ -86,7 +87,7 @@ pub bounds-sums-i : goal.bounds-sums-i
 bounds-sums-i c = in-sums (goal.at.bounds-sums-i c).In-loop-i
 
 pub bounds-kind-i : goal.bounds-kind-i
-bounds-kind-i c = below_length ℕ c.args.kind.now _ _ (fits (goal.at.bounds-kind-i c).At-loop-i).shape.sized.kind c.loop-i-test.true
+bounds-kind-i c = below_length ℕ c.args.g.now.mesh.kind.now _ _ (fits (goal.at.bounds-kind-i c).At-loop-i).shape.sized.kind c.loop-i-test.true
 
 pub overflow_mul-n : goal.overflow_mul-n
 overflow_mul-n c = (at (goal.at.overflow_mul-n c).In-loop-i).run

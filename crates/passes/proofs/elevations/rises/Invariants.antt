@@ -3,10 +3,10 @@ use mathlib.Core.Path.{◌≡◌}
 use lib.Dec.{eqb}
 use Rattle.rows.specs.declared.Answer.{Answer}
 use Rattle.rows.specs.Scan.{scan}
-use Rattle.mesh.specs.Lent.{mesh}
-use Rattle.passes.specs.Equations.{Given, given, node, rise}
+use Rattle.passes.specs.Equations.{Given, node, rise}
 use Rattle.outcomes.specs.Outcomes.{rise_row}
 use Rattle.passes.proofs.PassLaws.{rises_to}
+use Rattle.passes.specs.Private.{given_of}
 use Rattle.passes.proofs.elevations.rises.Given as goal
 
 -- row 13 of z' at a node
@@ -14,5 +14,5 @@ abbrev row_at : Given → ℕ → Answer
 row_at g i = rise_row (node g i).h (rise g i) i
 
 abbrev pub invariant-loop-i : goal.invariant-loop-i
-invariant-loop-i l = let g = given (mesh l.x l.y l.tri l.h l.kind) l.p l.state l.elevation l.winds in
+invariant-loop-i l = let g = given_of l.g in
     (l.i ≤ l.n) × ((l.work ≡ rises_to g l.i) × (l.all ≡ eqb (scan (row_at g) l.i).number 0))

@@ -6,15 +6,15 @@ use lib.Dec.{T, ltb, eqb}
 use lib.ListN.{length, length-set}
 use Rattle.rows.specs.declared.Answer.{Answer}
 use Rattle.rows.specs.Scan.{scan}
+use Rattle.rows.proofs.RefusalLaws.{answered_ok}
 use Rattle.rows.proofs.ScanLaws.{all_none, all_more, all_accept}
 use Rattle.lists.proofs.TableLaws.{length_table}
 use Rattle.lists.proofs.RunLaws.{runs_length}
-use Rattle.mesh.specs.Lent.{mesh}
-use Rattle.passes.specs.Equations.{Given, given, count, flow_at}
+use Rattle.passes.specs.Equations.{Given, count, flow_at}
 use Rattle.outcomes.specs.Outcomes.{flow_row}
 use Rattle.passes.specs.Settle.{work_runs}
-use Rattle.passes.specs.Private.{Fits, flow_room}
-use Rattle.passes.proofs.PassLaws.{Place, place, flows_to, its_flow, flow_more, flow_none, flow_all}
+use Rattle.passes.specs.Private.{given_of, Fits, flow_room}
+use Rattle.passes.proofs.PassLaws.{flows_read, Place, place, flows_to, its_flow, flow_more, flow_none, flow_all}
 use Rattle.passes.proofs.velocities.flows.Goals as goal
 use Rattle.passes.proofs.velocities.flows.Goals.{After-loop-i, At-loop-i, In-loop-i, Start}
 
@@ -23,20 +23,20 @@ abbrev row_at : Given → ℕ → Answer
 row_at g i = flow_row (flow_at g i) i
 
 abbrev its : Start → Given
-its s = let a = s.args in given (mesh a.x.now a.y.now a.tri.now a.h.now a.kind.now) a.p a.state.now a.elevation a.winds.now
+its s = given_of s.args.g.now
 
 abbrev here : At-loop-i → Given
-here l = let a = l.args in given (mesh a.x.now a.y.now a.tri.now a.h.now a.kind.now) a.p a.state.now a.elevation a.winds.now
+here l = given_of l.args.g.now
 
 fits : (l : At-loop-i) → Fits (here l)
 fits l = l.requires.fits
 
 -- the room's length, so that each place of its runs is within it
-long : (l : At-loop-i) → length l.loop-i.work ≡ work_runs * length l.args.x.now
+long : (l : At-loop-i) → length l.loop-i.work ≡ work_runs * length l.args.g.now.mesh.x.now
 long l = ap length l.loop-i.invariant.1.0 ∙ runs_length _ _
 
 abbrev last : After-loop-i → Given
-last c = let a = c.args in given (mesh a.x.now a.y.now a.tri.now a.h.now a.kind.now) a.p a.state.now a.elevation a.winds.now
+last c = given_of c.args.g.now
 
 -- after the last turn every U' and V' stands in the room
 done : (c : After-loop-i) → c.loop-i.i ≡ count (last c)
@@ -46,9 +46,9 @@ all : (c : After-loop-i) → c.loop-i.work ≡ flow_room (last c)
 all c = let g = last c in c.loop-i.invariant.1.0 ∙ ap (flows_to g) (done c) ∙ flow_all g
 
 -- place i of run k
-at : (t : In-loop-i) (k : ℕ) → T (ltb k work_runs) → Place k (length t.args.x.now) t.loop-i.i (length t.loop-i.work)
+at : (t : In-loop-i) (k : ℕ) → T (ltb k work_runs) → Place k (length t.args.g.now.mesh.x.now) t.loop-i.i (length t.loop-i.work)
 at t k h =
-    let long : length t.loop-i.work ≡ work_runs * length t.args.x.now = ap length t.loop-i.invariant.1.0 ∙ runs_length _ _ in
+    let long : length t.loop-i.work ≡ work_runs * length t.args.g.now.mesh.x.now = ap length t.loop-i.invariant.1.0 ∙ runs_length _ _ in
     place k work_runs h t.loop-i-test.true long t.loop-i.auto.work t.well_formed.0.1
 
 pub loop-i-preserved : goal.loop-i-preserved
@@ -59,17 +59,18 @@ loop-i-preserved c =
     let h = c.loop-i-test.true in
     let r = its_flow g (fits w.At-loop-i) i h c.requires.work_value.1 c.loop-i.invariant.1.0 c.flow_at-v.ensures in
     let asked = c.flow_row.ensures ∙ (λ j. flow_row (r j) i) in
-    (omega arith, (flow_more g (fits w.At-loop-i) i h c.loop-i.invariant.1.0 r, all_more (row_at g) i c.loop-i.invariant.1.1 (ap (λ (a : Answer). eqb a.number 0) asked)))
+    let holds = c.is_ok-all.ensures.value ∙ answered_ok _ ∙ ap (λ (a : Answer). eqb a.number 0) asked in
+    (omega arith, (flow_more g (fits w.At-loop-i) i h c.loop-i.invariant.1.0 r, all_more (row_at g) i c.loop-i.invariant.1.1 holds))
 
 pub returns-then-all : goal.returns-then-all
 returns-then-all c =
     let w = goal.at.returns-then-all c in
-    (c.accept.ensures ∙ all_accept (row_at (here w.At-loop-i)) _ c.loop-i.invariant.1.1 c.if-all.true ∙ ap (scan _) (done w.After-loop-i), all w.After-loop-i)
+    (all_accept (row_at (here w.At-loop-i)) _ c.loop-i.invariant.1.1 c.if-all.true ∙ ap (scan _) (done w.After-loop-i), all w.After-loop-i)
 
-pub returns-else-all : goal.returns-else-all
-returns-else-all c =
-    let w = goal.at.returns-else-all c in
-    (c.refused_flow.ensures (here w.At-loop-i) (all w.After-loop-i) refl, all w.After-loop-i)
+pub returns : goal.returns
+returns c =
+    let w = goal.at.returns c in
+    (c.refused_flow.ensures ∙ flows_read (here w.At-loop-i) (all w.After-loop-i) refl, all w.After-loop-i)
 
 pub loop-i-init : goal.loop-i-init
 loop-i-init c = (omega arith, (c.requires.work_value.0 ∙ flow_none (its (goal.at.loop-i-init c).Start), all_none _))

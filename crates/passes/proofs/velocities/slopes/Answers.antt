@@ -9,32 +9,32 @@ use Rattle.lists.specs.Gather.{Three, gathered}
 use Rattle.lists.specs.Private.{Below, past, spread}
 use Rattle.lists.proofs.RunLaws.{runs_length}
 use Rattle.geometry.specs.Geometry.{nodes_of}
-use Rattle.mesh.specs.Lent.{mesh, E}
+use Rattle.mesh.specs.Lent.{E}
 use Rattle.mesh.proofs.SideLaws.{corners_read}
-use Rattle.passes.specs.Equations.{Given, given, corners_of, floating}
+use Rattle.passes.specs.Equations.{Given, corners_of, floating}
 use Rattle.passes.specs.Settle.{work_runs}
-use Rattle.passes.specs.Private.{Fits}
+use Rattle.passes.specs.Private.{given_of, Fits}
 use Rattle.passes.proofs.PassLaws.{run_fits, slopes_to, in_run_lem, inside, its_near, its_floats, slope_more}
 use Rattle.passes.proofs.velocities.slopes.Goals as goal
 use Rattle.passes.proofs.velocities.slopes.Goals.{After-corners_at-c, At-loop-t, In-loop-t, Start}
 
 abbrev here : At-loop-t → Given
-here l = let a = l.args in given (mesh a.x.now a.y.now a.tri.now a.h.now a.kind.now) a.p a.state.now a.elevation a.winds.now
+here l = given_of l.args.g.now
 
 abbrev after : After-corners_at-c → Given
-after c = let a = c.args in given (mesh a.x.now a.y.now a.tri.now a.h.now a.kind.now) a.p a.state.now a.elevation a.winds.now
+after c = given_of c.args.g.now
 
 fits : (l : At-loop-t) → Fits (here l)
 fits l = l.requires.fits
 
-long : (l : At-loop-t) → length l.loop-t.work ≡ work_runs * length l.args.x.now
+long : (l : At-loop-t) → length l.loop-t.work ≡ work_runs * length l.args.g.now.mesh.x.now
 long l = ap length l.loop-t.invariant.1 ∙ runs_length _ _
 
 -- the corners that were read are those of triangle t
 corner : (c : After-corners_at-c) → nodes_of c.corners_at-c.result ≡ corners_of (after c) c.loop-t.t
 corner c = corners_read _ _ c.loop-t-test.true c.corners_at-c.ensures
 
-below : (c : After-corners_at-c) → Below (nodes_of c.corners_at-c.result) (length c.args.x.now)
+below : (c : After-corners_at-c) → Below (nodes_of c.corners_at-c.result) (length c.args.g.now.mesh.x.now)
 below c =
     let z : Fits (after c) = c.requires.fits in
     inside _ z _ c.loop-t-test.true (corners_read _ _ c.loop-t-test.true c.corners_at-c.ensures)
@@ -52,7 +52,7 @@ pub loop-t-preserved : goal.loop-t-preserved
 loop-t-preserved c =
     let w = goal.at.loop-t-preserved c in
     let h = c.loop-t-test.true in
-    let n = length c.args.x.now in
+    let n = length c.args.g.now.mesh.x.now in
     let at = nodes_of c.corners_at-c.result in
     let g = here w.At-loop-t in
     let z = fits w.At-loop-t in
