@@ -1,3 +1,4 @@
+pub mod ReplyLaws
 pub mod OpenLaws
 pub mod StepLaws
 pub mod NumberLaws

@@ -1,5 +1,5 @@
 -- The outcomes of a step: told by the answer, and made of what its passes leave and the clock.
-use mathlib.Core.Path.{◌≡◌, refl}
+use mathlib.Core.Path.{◌≡◌, refl, sym, ap, ◌∙◌}
 use mathlib.Core.Bool.{Bool, true, false, not}
 use borrow.Author.Tests.{eqb-true, eqb-false, not-true}
 use mathlib.Core.List.{List}
@@ -87,3 +87,21 @@ module _ (m : Mesh) (p : Parameters) (s : Run) (f : List Float) (r : Rooms) wher
   not_last ok =
       let counts : not (eqb s.clock.step 4294967295) ≡ true = row_passed _ 10 0 (accepted_forced _ _ _ _ _ _ ok).counts in
       eqb-false s.clock.step 4294967295 (not-true (eqb s.clock.step 4294967295) counts)
+
+  -- ---- by what a call of the passes left, asked with row 11
+  module _ {also : Answer} {o : Settled} (counts : also ≡ row11 s.clock.step) (settled : o ≡ settle_of m p s.state f also r) where
+    left : o ≡ its
+    left = settled ∙ ap (λ (a : Answer). settle_of m p s.state f a r) counts
+
+    pub step_refused : (o.answer.number ≡ 0 → ⊥) → with_clock s.clock o ≡ step_of m p s f r
+    step_refused h = ap (with_clock s.clock) left ∙ made.refused (λ z. h (ap (λ (q : Settled). q.answer.number) left ∙ z))
+
+    module _ (ok : o.answer.number ≡ 0) where
+      accepts_it : (early.number ≡ 0) × (with_clock (advanced s.clock) its ≡ step_of m p s f r)
+      accepts_it = made.accepted (sym (ap (λ (q : Settled). q.answer.number) left) ∙ ok)
+
+      pub step_counts : s.clock.step ≡ 4294967295 → ⊥
+      step_counts = not_last accepts_it.0
+
+      pub step_accepted : {k : Clock} → k ≡ advanced s.clock → with_clock k o ≡ step_of m p s f r
+      step_accepted e = (λ i. with_clock (e i) (left i)) ∙ accepts_it.1

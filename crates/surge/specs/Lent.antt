@@ -1,9 +1,12 @@
 -- Document 01, "What is lent": a run, its cold start and its clock.
-use Rattle.std.specs.Prelude.{ℕ, ◌+◌, ◌*◌, List, Float}
+use Rattle.std.specs.Prelude.{ℕ, ◌+◌, ◌*◌, List, Result, Ok, Err, Float}
+use Rattle.rows.specs.declared.Answer.{Answer}
+use Rattle.rows.specs.declared.Refusal.{Refusal}
+use Rattle.rows.specs.Scan.{accepted}
+use Rattle.rows.specs.Refusals.{answered}
 use Rattle.lists.specs.Table.{zeros}
 use Rattle.bounds.specs.State.{state_runs}
 use Rattle.surge.specs.declared.Clock.{Clock}
-use Rattle.surge.specs.declared.Reply.{Reply}
 
 -- what is held of a run on a mesh
 pub record Run : Type 0 where
@@ -23,6 +26,16 @@ cold_clock = record { step = 0 }
 -- "the clock gains one step"; of #105 the wind is the state's
 abbrev pub advanced : Clock → Clock
 advanced k = record { step = k.step + 1 }
+
+-- what a call hands back
+pub record Reply : Type 0 where
+  pub answer : Answer
+  pub clock : Clock
+
+-- a call's result as what it hands back: k is the clock that a refusal leaves
+abbrev pub replied : Clock → Result Clock Refusal → Reply
+replied k (Ok next) = record { answer = accepted; clock = next }
+replied k (Err refusal) = record { answer = answered (Err refusal); clock = k }
 
 -- what a call leaves: the answer and the clock that it hands back, and the state
 pub record After : Type 0 where

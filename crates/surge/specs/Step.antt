@@ -8,8 +8,7 @@ use Rattle.bounds.specs.Forcing.{elevation_of, winds_of, forced_rows}
 use Rattle.passes.specs.Equations.{Given, given, next_state}
 use Rattle.passes.specs.Row13.{row13}
 use Rattle.passes.specs.Settle.{Rooms, lent_rooms, row1_rooms, cleared}
-use Rattle.surge.specs.declared.Reply.{Reply}
-use Rattle.surge.specs.Lent.{Run, advanced}
+use Rattle.surge.specs.Lent.{Run, Reply, advanced}
 
 pub record StepOut : Type 0 where
   pub reply : Reply

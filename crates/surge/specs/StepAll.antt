@@ -2,6 +2,7 @@
 use Rattle.std.specs.Prelude.{ℕ, cond, List, eqb, Float}
 use Rattle.rows.specs.declared.Answer.{Answer}
 use Rattle.rows.specs.Scan.{accepted, ◌then◌}
+use Rattle.rows.specs.Refusals.{answered}
 use Rattle.quantities.specs.declared.Parameters.{Parameters}
 use Rattle.limits.specs.Limits.{row11}
 use Rattle.mesh.specs.Lent.{Mesh, N}
@@ -10,8 +11,8 @@ use Rattle.bounds.specs.Forcing.{row12}
 use Rattle.passes.specs.Row13.{row13}
 use Rattle.passes.specs.Settle.{Rooms, lent_rooms}
 use Rattle.passes.specs.InTurn.{Single, Turns, first_rows, list_of}
-use Rattle.surge.specs.declared.ListReply.{ListReply}
-use Rattle.surge.specs.Lent.{Run, run}
+use Rattle.surge.specs.declared.ListReply as handed
+use Rattle.surge.specs.Lent.{Run, Reply, run}
 use Rattle.surge.specs.Step.{given_of, step_of}
 
 -- a step, as a single call
@@ -19,6 +20,14 @@ abbrev pub single_step : Mesh → Parameters → Single
 single_step m p state step f r =
     let o = step_of m p (run state (record { step = step })) f r in
     record { answer = o.reply.answer; step = o.reply.clock.step; rooms = o.rooms }
+
+-- what is handed back: with the count of accepted steps
+pub record ListReply : Type 0 where
+  pub reply : Reply
+  pub accepted : ℕ
+
+abbrev pub list_replied : handed.ListReply → ListReply
+list_replied o = record { reply = record { answer = answered o.asked; clock = o.clock }; accepted = o.accepted }
 
 -- what is handed back and left
 abbrev pub list_out : ListReply → List Float → List Float → List ℕ → Turns

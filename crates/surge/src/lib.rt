@@ -2,17 +2,18 @@
 #![tactic(auto)]
 
 ghost use Rattle.std.specs.Prelude.{◌≡◌, ◌<◌};
-ghost use Rattle.mesh.specs.Lent.{mesh};
+ghost use Rattle.mesh.specs.Lent.{mesh_of};
 ghost use Rattle.passes.specs.Settle.{lent_rooms};
-ghost use Rattle.surge.specs.Lent.{run, cold_clock, advanced, after};
+ghost use Rattle.surge.specs.Lent.{run, cold_clock, advanced, replied, after};
 ghost use Rattle.surge.specs.Open.{open_of};
 ghost use Rattle.surge.specs.Step.{step_out, step_of};
-ghost use Rattle.surge.specs.StepAll.{list_out, step_all_of};
+ghost use Rattle.surge.specs.StepAll.{list_replied, list_out, step_all_of};
 
 use bounds::STATE_RUNS;
 use lists::slices;
+use mesh::Mesh;
 use quantities::Parameters;
-use rows::Answer;
+use rows::{Asked, Refusal, Row};
 
 // The step number.
 #[derive(Clone, Copy)]
@@ -38,41 +39,22 @@ impl Clock {
     }
 }
 
-// What a call on a run hands back.
-#[derive(Clone, Copy)]
-pub struct Reply {
-    pub answer: Answer,
-    pub clock: Clock,
-}
-
-// What a call on a list of forcings hands back, with the count of accepted steps.
+// What a call on a list of forcings hands back: what it answers, and in either case the clock and the count of accepted steps.
 #[derive(Clone, Copy)]
 pub struct ListReply {
-    pub reply: Reply,
+    pub asked: Asked,
+    pub clock: Clock,
     pub accepted: u32,
 }
 
-// Opens a mesh: rows 1 to 9, then the cold state. The cold clock comes back either way.
-pub fn open(
-    state: &mut [f64],
-    x: &[i32],
-    y: &[i32],
-    tri: &[u16],
-    h: &[f64],
-    kind: &[u8],
-    p: Parameters,
-) -> Reply
-    ensures { after result state.new ≡ open_of (mesh x.now y.now tri.now h.now kind.now) p state.old }
+// Opens a mesh: rows 1 to 9, then the cold state and the cold clock. A refusal leaves the state as found.
+pub fn open(state: &mut [f64], m: &Mesh<'_>, p: Parameters) -> Result<Clock, Refusal>
+    ensures { after (replied cold_clock result) state.new ≡ open_of (mesh_of m.now) p state.old }
 {
-    let long = rows::tested(slices::is_runs(state.len(), STATE_RUNS, x.len()), 1, 0);
-    let answer = nodes::open_rows(long, x, y, tri, h, kind, p);
-    if answer.number == 0 {
-        slices::clear(state);
-    }
-    Reply {
-        answer,
-        clock: Clock::cold(),
-    }
+    let long = slices::is_runs(state.len(), STATE_RUNS, m.x.len());
+    nodes::open_rows(rows::tested(long, Row::Lengths, 0), m, p)?;
+    slices::clear(state);
+    Ok(Clock::cold())
 }
 
 // A step: what is tested of mesh, state, clock and forcing, then row 13 and the next state in `next`. A refusal leaves `next` and the clock as found,
@@ -83,25 +65,15 @@ pub fn step(
     sums: &mut [u64],
     state: &[f64],
     f: &[f64],
-    x: &[i32],
-    y: &[i32],
-    tri: &[u16],
-    h: &[f64],
-    kind: &[u8],
+    m: &Mesh<'_>,
     p: Parameters,
     clock: Clock,
-) -> Reply
-    ensures { step_out result next.new work.new sums.new ≡ step_of (mesh x.now y.now tri.now h.now kind.now) p (run state.now clock) f.now (lent_rooms next.old work.old sums.old) }
+) -> Result<Clock, Refusal>
+    ensures { step_out (replied clock result) next.new work.new sums.new ≡ step_of (mesh_of m.now) p (run state.now clock) f.now (lent_rooms next.old work.old sums.old) }
 {
     let also = limits::may_count(clock.step);
-    let answer = passes::settle(next, work, sums, x, y, tri, h, kind, p, state, f, also);
-    if answer.number != 0 {
-        return Reply { answer, clock };
-    }
-    Reply {
-        answer,
-        clock: clock.advanced(),
-    }
+    passes::settle(next, work, sums, m, p, state, f, also)?;
+    Ok(clock.advanced())
 }
 
 // Steps through a list of forcings, at most 4,096, one after another, and stops at the first refusal: what single steps would answer and leave. Rows 14 and 1 to
@@ -112,24 +84,16 @@ pub fn step_all(
     sums: &mut [u64],
     state: &[f64],
     list: &[f64],
-    x: &[i32],
-    y: &[i32],
-    tri: &[u16],
-    h: &[f64],
-    kind: &[u8],
+    m: &Mesh<'_>,
     p: Parameters,
     clock: Clock,
 ) -> ListReply
-    ensures { list_out result next.new work.new sums.new ≡ step_all_of (mesh x.now y.now tri.now h.now kind.now) p (run state.now clock) list.now (lent_rooms next.old work.old sums.old) }
+    ensures { list_out (list_replied result) next.new work.new sums.new ≡ step_all_of (mesh_of m.now) p (run state.now clock) list.now (lent_rooms next.old work.old sums.old) }
 {
-    let made = passes::settle_all(
-        next, work, sums, x, y, tri, h, kind, p, state, list, clock.step,
-    );
-    let answer = made.answer;
-    let clock = Clock { step: made.step };
-    let reply = Reply { answer, clock };
+    let made = passes::settle_all(next, work, sums, m, p, state, list, clock.step);
     ListReply {
-        reply,
+        asked: made.asked,
+        clock: Clock { step: made.step },
         accepted: made.accepted,
     }
 }

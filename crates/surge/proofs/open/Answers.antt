@@ -1,27 +1,17 @@
-use mathlib.Core.Path.{◌≡◌, ap, ◌∙◌}
-use mathlib.Core.Bool.{Bool}
-use Rattle.rows.specs.declared.Answer.{Answer}
-use Rattle.rows.specs.Scan.{row}
-use Rattle.mesh.specs.Lent.{mesh}
-use Rattle.nodes.specs.Rows.{open_rows}
-use Rattle.surge.specs.Open.{open_answer}
-use Rattle.surge.proofs.OpenLaws.{open_accepted, open_refused}
+use mathlib.Core.Path.{ap, ◌∙◌}
+use Rattle.rows.specs.Scan.{accepted}
+use Rattle.surge.specs.declared.Clock.{Clock}
+use Rattle.surge.specs.Lent.{Reply, cold_clock, after}
+use Rattle.surge.proofs.OpenLaws.{opened, open_accepted, open_refused}
+use Rattle.surge.proofs.ReplyLaws.{refused_reply}
 use Rattle.surge.proofs.open.Goals as goal
-use Rattle.surge.proofs.open.Goals.{After-open_rows-answer, then-answer-eq0, else-answer-eq0}
 
-answered : (c : After-open_rows-answer) → let a = c.args in
-    c.open_rows-answer.result ≡ open_answer (mesh a.x.now a.y.now a.tri.now a.h.now a.kind.now) a.p a.state.now
-unfolding open_answer
-answered c =
-    let a = c.args in
-    let m = mesh a.x.now a.y.now a.tri.now a.h.now a.kind.now in
-    let long = c.tested-long.ensures ∙ ap (λ (b : Bool). row b 1 0) c.is_runs.ensures in
-    c.open_rows-answer.ensures ∙ ap (λ (b : Answer). open_rows b m a.p) long
+pub returns-in_err-open_rows : goal.returns-in_err-open_rows
+returns-in_err-open_rows c =
+    ap (λ (r : Reply). after r c.args.state.now) (refused_reply cold_clock _ _ c.from_residual.ensures.1)
+    ∙ open_refused _ _ _ _ (opened _ _ _ c.is_runs-long.ensures c.tested.ensures c.in_err-open_rows.ensures)
 
 pub returns : goal.returns
 returns c =
-    let its = answered (goal.at.returns c).After-open_rows-answer in
-    elim c.if-answer-eq0.branch [
-      | then-answer-eq0 w ↦ open_accepted _ _ _ _ _ its c.cold.ensures w.if-answer-eq0.true _ (w.state-is ∙ w.clear.ensures)
-      | else-answer-eq0 w ↦ open_refused _ _ _ _ _ its c.cold.ensures w.if-answer-eq0.false _ w.state-is
-    ]
+    ap (λ (k : Clock). after (record { answer = accepted; clock = k }) c.clear.new.s) c.cold.ensures
+    ∙ open_accepted _ _ _ (opened _ _ _ c.is_runs-long.ensures c.tested.ensures c.in_ok-open_rows.ensures) _ c.clear.ensures
