@@ -1,6 +1,6 @@
 -- The outcomes of a save: refused, and written.
 use Prim.Native.Nat.{ℕ, ◌≤◌}
-use mathlib.Core.Path.{◌≡◌, refl, ap, ◌∙◌}
+use mathlib.Core.Path.{◌≡◌, refl, sym, ap, ◌∙◌}
 use mathlib.Core.Bool.{Bool, true, false}
 use mathlib.Core.List.{List, ◌++◌}
 use borrow.Author.Tests.{eqb-true, eq-eqb, ne_eqb, le-leb}
@@ -8,15 +8,21 @@ use lib.Dec.{eqb}
 use lib.ListN.{length, take, drop}
 use lib.Seq.{take_at}
 use lib.Ieee.{Float}
+use Rattle.std.specs.Prelude.{Result, Err}
+use Rattle.std.specs.Result.{IsErrAnd}
+use Rattle.std.proofs.lemmas.Result.{err_from_is_err_and}
 use Rattle.rows.specs.declared.Answer.{Answer}
+use Rattle.rows.specs.declared.Refusal.{Refusal}
 use Rattle.rows.specs.Scan.{accepted}
-use Rattle.rows.proofs.ScanLaws.{row_holds, then_next, same_number, other_number}
+use Rattle.rows.specs.Refusals.{answered}
+use Rattle.rows.proofs.ScanLaws.{row_holds, then_stop, then_next}
+use Rattle.rows.proofs.RefusalLaws.{refuses, went, accepts}
 use Rattle.quantities.specs.declared.Parameters.{Parameters}
 use Rattle.surge.specs.declared.Clock.{Clock}
 use Rattle.mesh.specs.Lent.{Mesh, N}
 use Rattle.bounds.specs.State.{run_rows}
 use Rattle.editions.specs.Lines.{edition2, line_count, save_length}
-use Rattle.saves.specs.Save.{Saved, saved_of, save_text, row24, save_answer, save_out, wrote, save_of}
+use Rattle.saves.specs.Save.{Saved, saved_of, save_text, row24, save_answer, save_out, wrote, saved, save_of}
 use Rattle.saves.proofs.LineLaws.{save_long}
 use Rattle.saves.proofs.WriteLaws.{lines_start}
 
@@ -24,15 +30,30 @@ use Rattle.saves.proofs.WriteLaws.{lines_start}
 pub text_long : (s : Saved) → length (save_text s) ≡ save_length s.n
 text_long s = lines_start s (line_count edition2 s.n) ∙ save_long s.n
 
-module _ (m : Mesh) (p : Parameters) (state : List Float) (k : Clock) (t : List ℕ) where
-  pub save_refused : {a : Answer} → a ≡ save_answer m p state t → (a.number ≡ 0 → ⊥) → save_out a t ≡ save_of m p state k t
-  unfolding save_of
-  save_refused e h = rw (ne_eqb _ _ (other_number e h)) (ap (λ (b : Answer). save_out b t) e)
+-- the rows in turn: a run that they refuse, and row 24 of one that they accept
+module _ (m : Mesh) (p : Parameters) (state : List Float) (t : List ℕ) where
+  pub run_refused : (x : Refusal) → answered (Err x) ≡ run_rows accepted m p state → answered (Err x) ≡ save_answer m p state t
+  unfolding save_answer
+  run_refused x e = e ∙ sym (then_stop _ _ (refuses x e))
 
-  pub save_written : {a : Answer} {new : List ℕ} → a ≡ save_answer m p state t → a.number ≡ 0
-      → new ≡ save_text (saved_of m p state k) ++ drop (save_length (N m)) t → save_out (wrote (save_length (N m))) new ≡ save_of m p state k t
+  pub room_asked : {a : Answer} → accepted ≡ run_rows accepted m p state → a ≡ row24 (N m) t → a ≡ save_answer m p state t
+  unfolding save_answer
+  room_asked e h = went e h
+
+module _ (m : Mesh) (p : Parameters) (state : List Float) (k : Clock) (t : List ℕ) where
+  -- a refusal that `?` hands back
+  pub save_refused : (q : Result ℕ Refusal) (x : Refusal) → IsErrAnd q (λ y. y ≡ x) → answered (Err x) ≡ save_answer m p state t
+      → save_out (saved q) t ≡ save_of m p state k t
   unfolding save_of
-  save_written e h en = rw (eq-eqb _ _ (same_number e h)) (ap (save_out (wrote (save_length (N m)))) en)
+  save_refused q x is e =
+      let r = err_from_is_err_and q is in
+      let out : save_out (answered (Err x)) t ≡ save_of m p state k t = rw (ne_eqb _ _ (refuses x e)) (ap (λ (b : Answer). save_out b t) e) in
+      ap (λ (b : Result ℕ Refusal). save_out (saved b) t) (r.1 ∙ ap Err r.2) ∙ out
+
+  pub save_written : {new : List ℕ} → accepted ≡ save_answer m p state t → new ≡ save_text (saved_of m p state k) ++ drop (save_length (N m)) t
+      → save_out (wrote (save_length (N m))) new ≡ save_of m p state k t
+  unfolding save_of
+  save_written e en = rw (eq-eqb _ _ (accepts e)) (ap (save_out (wrote (save_length (N m)))) en)
 
   -- a run that passes row 10, and room enough
   module _ (ok : (run_rows accepted m p state).number ≡ 0) (l : save_length (N m) ≤ length t) where

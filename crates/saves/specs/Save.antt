@@ -1,8 +1,10 @@
 -- Document 02, #105: a save, of edition 2. "A save goes on with 10, 12 (held wind only), 24": row 12 is the forcing's alone now.
-use Rattle.std.specs.Prelude.{ℕ, cond, List, [], ◌∷◌, ◌++◌, eqb, leb, length, drop, Float}
+use Rattle.std.specs.Prelude.{ℕ, cond, List, [], ◌∷◌, ◌++◌, eqb, leb, length, drop, Result, Ok, Err, Float}
 use Rattle.rows.specs.declared.Answer.{Answer}
+use Rattle.rows.specs.declared.Refusal.{Refusal}
 use Rattle.rows.specs.Numbers.{plus0}
 use Rattle.rows.specs.Scan.{accepted, row, ◌then◌}
+use Rattle.rows.specs.Refusals.{answered}
 use Rattle.lists.specs.Runs.{in_run, runs_of}
 use Rattle.quantities.specs.declared.Parameters.{Parameters}
 use Rattle.quantities.specs.declared.Wind.{Wind}
@@ -86,6 +88,11 @@ save_out a t = record { answer = a; text = t }
 -- "a save's place is the bytes it wrote"
 abbrev pub wrote : ℕ → Answer
 wrote bytes = record { number = 0; place = bytes; value = plus0 }
+
+-- a call's result, with the bytes that it wrote, as its answer
+abbrev pub saved : Result ℕ Refusal → Answer
+saved (Ok bytes) = wrote bytes
+saved (Err refusal) = answered (Err refusal)
 
 -- "Text room past a save keeps its bytes"; a refusal leaves the text as found
 unfoldable pub save_of : Mesh → Parameters → List Float → Clock → List ℕ → SaveOut
