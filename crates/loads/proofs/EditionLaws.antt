@@ -1,5 +1,5 @@
 -- Which line of either edition is due where, and where it starts, by its number; and a node from the fields of its line, as the code reads it.
-use Prim.Native.Nat.{ℕ, suc, ◌+◌, ◌-◌, ◌*◌, ◌<◌, ◌≤◌}
+use Prim.Native.Nat.{ℕ, zero, suc, ◌+◌, ◌-◌, ◌*◌, ◌<◌, ◌≤◌}
 use mathlib.Core.Path.{◌≡◌, refl, ap, ◌∙◌}
 use mathlib.Core.List.{List}
 use native.Mathlib.Omega.{arith}
@@ -8,7 +8,7 @@ use lib.Ieee.{Float, nan}
 use Rattle.frames.specs.Frames.{digits_of}
 use Rattle.frames.specs.Reading.{float, values}
 use Rattle.frames.specs.Texts.{start_of}
-use Rattle.editions.specs.Lines.{Edition, edition1, layout_at, node_line, line_count}
+use Rattle.editions.specs.Lines.{Edition, layout_at, node_line, line_count}
 use Rattle.saves.proofs.LineLaws.{start_node, start_last}
 use Rattle.editions.specs.declared.Edition as code
 use Rattle.editions.specs.declared.Edition.TheVariants.{One, Two}
@@ -28,12 +28,20 @@ module _ (d : Edition) (n : ℕ) where
       → take (digits_of d.node.widths + 1) (drop (start_of (layout_at d n) (node_line d 0) + (digits_of d.node.widths + 1) * i) t) ≡ line_in d n t (node_line d i)
   node_line_lem t i l = rw (node_due d n i l, start_node d n i (omega arith))
 
--- "70+73N bytes": edition 1 is read, and no longer written
-pub save1_long : (n : ℕ) → start_of (layout_at edition1 n) (line_count edition1 n) ≡ 70 + 73 * n
+  -- how long all lines are together
+  pub all_lines : start_of (layout_at d n) (line_count d n) ≡ start_of (layout_at d n) (node_line d 0) + (digits_of d.node.widths + 1) * n + 13
+  all_lines =
+      let nodes : line_count d n - length d.heads ≡ suc n = omega arith in
+      ap (start_of (layout_at d n)) (its_node d n (line_count d n) (omega arith) ∙ ap (node_line d) nodes) ∙ start_last d n
+
+-- a line before the nodes' starts at 0, or past the head of edition 2
+pub start_head : (d : code.Edition) (n j : ℕ) → j < length (lines_of d).heads → 25 * j ≡ start_of (layout_at (lines_of d) n) j
 unfolding start_of
-save1_long n =
-    let last : line_count edition1 n ≡ node_line edition1 (suc n) = omega arith in
-    ap (start_of (layout_at edition1 n)) last ∙ start_last edition1 n ∙ omega arith
+start_head One n zero l = refl
+start_head One n (suc j) l = absurd (omega arith)
+start_head Two n zero l = refl
+start_head Two n (suc zero) l = refl
+start_head Two n (suc (suc j)) l = absurd (omega arith)
 
 -- ---- a node: its own wind, or the head's for each
 pub node_fields_lem : (d : code.Edition) (n : ℕ) (t : List ℕ) (h : List Float) (i : ℕ) → let l = line_in (lines_of d) n t (node_line (lines_of d) i) in

@@ -7,8 +7,12 @@ use borrow.Author.Tests.{leb-true, eqb-true, eqb-false, eq-eqb, ne_eqb}
 use lib.Dec.{eqb}
 use lib.ListN.{length}
 use lib.Ieee.{Float}
+use Rattle.std.specs.Prelude.{Err}
 use Rattle.rows.specs.declared.Answer.{Answer}
-use Rattle.rows.proofs.ScanLaws.{row_passed, then_first, then_rest, scan_clean, same_number, other_number}
+use Rattle.rows.specs.declared.Refusal.{Refusal}
+use Rattle.rows.specs.Refusals.{answered}
+use Rattle.rows.proofs.ScanLaws.{row_passed, then_first, then_rest, scan_clean}
+use Rattle.rows.proofs.RefusalLaws.{refuses, accepts}
 use Rattle.quantities.specs.declared.Parameters.{Parameters}
 use Rattle.surge.specs.declared.Clock.{Clock}
 use Rattle.mesh.specs.Lent.{Mesh, N, E}
@@ -36,14 +40,14 @@ module _ (m : Mesh) (p : Parameters) (t : List ℕ) (state : List Float) where
     abbrev pub left_as_found : After
     left_as_found = after (record { answer = load_answer m p t state; clock = k }) state
 
-    pub load_refused : {a : Answer} → a ≡ load_answer m p t state → (a.number ≡ 0 → ⊥) → after (record { answer = a; clock = k }) state ≡ load_of m p t state k
+    pub load_refused : (x : Refusal) → answered (Err x) ≡ load_answer m p t state → after (record { answer = answered (Err x); clock = k }) state ≡ load_of m p t state k
     unfolding load_of
-    load_refused e h = rw (ne_eqb _ _ (other_number e h)) (ap (λ (b : Answer). after (record { answer = b; clock = k }) state) e)
+    load_refused x e = rw (ne_eqb _ _ (refuses x e)) (ap (λ (b : Answer). after (record { answer = b; clock = k }) state) e)
 
-    pub load_taken : {a : Answer} {c : Clock} {new : List Float} → a ≡ load_answer m p t state → a.number ≡ 0 → c ≡ clock_in (edition_of t) (N m) t → new ≡ state_in (edition_of t) (N m) t m.h
-        → after (record { answer = a; clock = c }) new ≡ load_of m p t state k
+    pub load_taken : {c : Clock} {new : List Float} → accepted ≡ load_answer m p t state → c ≡ clock_in (edition_of t) (N m) t → new ≡ state_in (edition_of t) (N m) t m.h
+        → after (record { answer = accepted; clock = c }) new ≡ load_of m p t state k
     unfolding load_of
-    load_taken e h ec en = rw (eq-eqb _ _ (same_number e h)) (λ i. after (record { answer = e i; clock = ec i }) (en i))
+    load_taken e ec en = rw (eq-eqb _ _ (accepts e)) (λ i. after (record { answer = e i; clock = ec i }) (en i))
 
     -- what holds of each of the two outcomes, where it comes, holds of a load's
     pub load_cases : (P : After → Type 0) → ((load_answer m p t state).number ≡ 0 → P took_text)

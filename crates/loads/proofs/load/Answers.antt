@@ -1,86 +1,94 @@
-use borrow.Author.Rules.{rules}
-use mathlib.Core.Path.{◌≡◌, ap, ◌∙◌}
-use mathlib.Core.Bool.{Bool}
 use Prim.Native.Nat.{ℕ, ◌*◌}
+use mathlib.Core.Path.{◌≡◌, sym, ap, ◌∙◌}
+use mathlib.Core.Bool.{Bool}
 use mathlib.Core.List.{List}
 use lib.ListN.{length}
 use lib.Ieee.{Float}
+use Rattle.std.specs.Prelude.{Err}
+use Rattle.rows.specs.declared.Answer.{Answer}
+use Rattle.rows.specs.declared.Refusal.{Refusal}
+use Rattle.rows.specs.Scan.{accepted, row}
+use Rattle.rows.specs.Refusals.{answered}
+use Rattle.rows.proofs.ScanLaws.{then_stop}
+use Rattle.rows.proofs.RefusalLaws.{refuses, went, accepts}
 use Rattle.lists.specs.Runs.{is_runs}
 use Rattle.quantities.specs.declared.Parameters.{Parameters}
-use Rattle.rows.specs.declared.Answer.{Answer}
-use Rattle.rows.specs.Scan.{row}
-use Rattle.rows.proofs.ScanLaws.{stops, goes}
-use Rattle.mesh.specs.Lent.{Mesh, mesh, N, E}
-use Rattle.nodes.specs.Rows.{mesh_rows}
+use Rattle.mesh.specs.Lent.{Mesh, mesh_of, N, E}
 use Rattle.mesh.specs.Private.{Shaped}
 use Rattle.mesh.proofs.ShapedLaws.{shaped, shaped_asked}
 use Rattle.areas.specs.Areas.{counted_sum}
 use Rattle.areas.proofs.AreaLaws.{all_counted}
+use Rattle.nodes.specs.Rows.{mesh_rows}
 use Rattle.nodes.proofs.PartLaws.{mesh_parts}
 use Rattle.bounds.specs.State.{state_runs, row1_state}
 use Rattle.bounds.proofs.StateLaws.{long_state}
 use Rattle.editions.specs.Lines.{Edition, edition_of}
+use Rattle.surge.specs.Lent.{Reply, after}
+use Rattle.surge.proofs.ReplyLaws.{refused_reply}
 use Rattle.loads.specs.Load.{clock_in, rows_in, state_in, load_answer}
 use Rattle.loads.proofs.LoadLaws.{load_refused, load_taken}
 use Rattle.loads.proofs.load.Goals as goal
-use Rattle.loads.proofs.load.Goals.{After-text_rows-answer, Else-lent-ne0, Start}
 
-abbrev net : Start → Mesh
-net s = let a = s.args in mesh a.x.now a.y.now a.tri.now a.h.now a.kind.now
-
--- ---- the mesh's rows
 module _ (m : Mesh) (p : Parameters) (state : List Float) where
-  -- the answer that was asked for first is row 1 of the state
-  asked : {b : Bool} {long lent : Answer} → b ≡ is_runs (length state) state_runs (N m) → long ≡ row b 1 0 → lent ≡ mesh_rows long m p → lent ≡ mesh_rows (row1_state m state) m p
-  asked eb el e = e ∙ ap (λ (a : Answer). mesh_rows a m p) (el ∙ ap (λ (b : Bool). row b 1 0) eb)
+  -- the mesh's rows are asked with row 1 of the state
+  asked : {is_long : Bool} {long lent : Answer} → is_long ≡ is_runs (length state) state_runs (N m) → long ≡ row is_long 1 0 → lent ≡ mesh_rows long m p
+      → lent ≡ mesh_rows (row1_state m state) m p
+  asked el ea e = e ∙ ap (λ (a : Answer). mesh_rows a m p) (ea ∙ ap (λ (b : Bool). row b 1 0) el)
 
-  -- where they pass
-  module _ (z : (mesh_rows (row1_state m state) m p).number ≡ 0) where
+  -- where they refuse
+  mesh_refused : (x : Refusal) (t : List ℕ) → answered (Err x) ≡ mesh_rows (row1_state m state) m p → answered (Err x) ≡ load_answer m p t state
+  unfolding load_answer
+  mesh_refused x t e = e ∙ sym (then_stop _ _ (refuses x e))
+
+  -- and where they pass
+  module _ (ok : accepted ≡ mesh_rows (row1_state m state) m p) where
     shape : Shaped m
-    shape = shaped _ m (mesh_parts _ _ _ z).0
+    shape = shaped _ m (mesh_parts _ _ _ (accepts ok)).0
 
     long : length state ≡ state_runs * N m
-    long = long_state m state (shaped_asked _ m (mesh_parts _ _ _ z).0)
+    long = long_state m state (shaped_asked _ m (mesh_parts _ _ _ (accepts ok)).0)
 
     -- those of the text are asked
-    answered : (t : List ℕ) {d : Edition} {sum : ℕ} {r : Answer} → d ≡ edition_of t → sum ≡ counted_sum m.x m.y m.tri → r ≡ rows_in d (N m) t (E m) sum p m.h → r ≡ load_answer m p t state
+    text_asked : (t : List ℕ) {d : Edition} {sum : ℕ} {r : Answer} → d ≡ edition_of t → sum ≡ counted_sum m.x m.y m.tri → r ≡ rows_in d (N m) t (E m) sum p m.h
+        → r ≡ load_answer m p t state
     unfolding load_answer
-    answered t ed es er = goes _ z (er ∙ (λ i. rows_in (ed i) (N m) t (E m) ((es ∙ all_counted m shape) i) p m.h))
+    text_asked t ed es er = went ok (er ∙ (λ i. rows_in (ed i) (N m) t (E m) ((es ∙ all_counted m shape) i) p m.h))
 
-passed : (c : Else-lent-ne0) → let a = c.args in let m = mesh a.x.now a.y.now a.tri.now a.h.now a.kind.now in
-    (mesh_rows (row1_state m a.state.now) m a.p).number ≡ 0
-passed c = cc (c.is_runs.ensures, c.tested-long.ensures)
+pub returns-in_err-mesh_rows : goal.returns-in_err-mesh_rows
+returns-in_err-mesh_rows c =
+    λ clock.
+    ap (λ (r : Reply). after r c.args.state.now) (refused_reply clock _ _ c.from_residual.ensures.1)
+    ∙ load_refused _ _ _ _ clock _ (mesh_refused _ _ _ _ _ (asked _ _ _ c.is_runs-long.ensures c.tested.ensures c.in_err-mesh_rows.ensures))
 
-its : (c : After-text_rows-answer) → let a = c.args in let m = mesh a.x.now a.y.now a.tri.now a.h.now a.kind.now in
-    (mesh_rows (row1_state m a.state.now) m a.p).number ≡ 0 → c.text_rows-answer.result ≡ load_answer m a.p a.text.now a.state.now
-its c ok = answered _ _ _ ok _ c.edition_of-d.ensures c.twice_areas-sum.ensures c.text_rows-answer.ensures
+pub text_rows-requires : goal.text_rows-requires
+text_rows-requires c =
+    let sized = (shape _ _ _ (asked _ _ _ c.is_runs-long.ensures c.tested.ensures c.in_ok-mesh_rows.ensures)).sized in
+    (sized.h, sized.most_nodes)
+
+pub returns-in_err-text_rows : goal.returns-in_err-text_rows
+returns-in_err-text_rows c =
+    let ok = asked _ _ _ c.is_runs-long.ensures c.tested.ensures c.in_ok-mesh_rows.ensures in
+    λ clock.
+    ap (λ (r : Reply). after r c.args.state.now) (refused_reply clock _ _ c.from_residual-in_err-text_rows.ensures.1)
+    ∙ load_refused _ _ _ _ clock _ (text_asked _ _ _ ok _ c.edition_of.ensures c.twice_areas-sum.ensures c.in_err-text_rows.ensures)
 
 pub fill-requires : goal.fill-requires
 fill-requires c =
-    let ok = passed (goal.at.fill-requires c).Else-lent-ne0 in
-    let z = (shape _ _ _ ok).sized in
-    (z.most_nodes, z.h, long _ _ _ ok)
+    let ok = asked _ _ _ c.is_runs-long.ensures c.tested.ensures c.in_ok-mesh_rows.ensures in
+    let sized = (shape _ _ _ ok).sized in
+    (sized.most_nodes, sized.h, long _ _ _ ok)
 
-pub returns-then-lent-ne0 : goal.returns-then-lent-ne0
-unfolding load_answer
-returns-then-lent-ne0 c =
-    load_refused _ _ _ _ _ (stops _ (asked _ _ _ c.is_runs.ensures c.tested-long.ensures (search rules)) c.if-lent-ne0.true) c.if-lent-ne0.true
+pub clock-requires : goal.clock-requires
+clock-requires c = (shape _ _ _ (asked _ _ _ c.is_runs-long.ensures c.tested.ensures c.in_ok-mesh_rows.ensures)).sized.most_nodes
 
 pub returns : goal.returns
 returns c =
-    let a = c.args in
-    let m = net (goal.at.returns c).Start in
-    let edition = c.edition_of-d.ensures in
-    load_taken _ _ _ _ _ (its (goal.at.returns c).After-text_rows-answer (passed (goal.at.returns c).Else-lent-ne0)) c.if-answer-ne0.false
-    (c.clock_of.ensures ∙ ap (λ (l : Edition). clock_in l (N m) a.text.now) edition)
-    (c.fill.ensures ∙ ap (λ (l : Edition). state_in l (N m) a.text.now m.h) edition)
-
-pub text_rows-answer-requires : goal.text_rows-answer-requires
-text_rows-answer-requires c = let z = (shape _ _ _ (passed (goal.at.text_rows-answer-requires c).Else-lent-ne0)).sized in (z.h, z.most_nodes)
-
-pub returns-then-answer-ne0 : goal.returns-then-answer-ne0
-returns-then-answer-ne0 c =
-    load_refused _ _ _ _ _ (its (goal.at.returns-then-answer-ne0 c).After-text_rows-answer (passed (goal.at.returns-then-answer-ne0 c).Else-lent-ne0)) c.if-answer-ne0.true
-
-pub clock_of-requires : goal.clock_of-requires
-clock_of-requires c = (shape _ _ _ (passed (goal.at.clock_of-requires c).Else-lent-ne0)).sized.most_nodes
+    let m = mesh_of c.args.m.now in
+    let t = c.args.text.now in
+    let ok = asked _ _ _ c.is_runs-long.ensures c.tested.ensures c.in_ok-mesh_rows.ensures in
+    let edition = c.edition_of.ensures in
+    λ clock.
+    load_taken m _ t _ clock
+    (text_asked _ _ _ ok _ edition c.twice_areas-sum.ensures c.in_ok-text_rows.ensures)
+    (c.clock.ensures ∙ ap (λ (d : Edition). clock_in d (N m) t) edition)
+    (c.fill.ensures ∙ ap (λ (d : Edition). state_in d (N m) t m.h) edition)
