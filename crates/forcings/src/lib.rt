@@ -2,31 +2,31 @@
 #![tactic(auto)]
 
 ghost use Rattle.std.specs.Prelude.{◌≡◌, ◌+◌, ◌*◌, ◌^◌, ◌<◌, ◌≤◌, length, set};
-ghost use Rattle.forcings.specs.Forcings.{forcing_length, rows14, forcing10, forcing14, taken, taken_of};
+ghost use Rattle.rows.specs.Refusals.{answered};
+ghost use Rattle.faults.specs.Faults.{line_fault};
+ghost use Rattle.forcings.specs.Forcings.{forcing_lines, forcing_length, rows14, forcing10, forcing14, taken, taken_of};
 
-use frames::reading;
-use rows::Answer;
+use frames::{Kind, reading};
+use rows::{Asked, Row};
 
-// The lines of kinds 14 and 15 in turn, and then the bytes after the last. A line that the text breaks off is refused, so that `at` stays within the text,
-// however many nodes the room has.
-fn rows_14(n: usize, text: &[u8]) -> Answer
-    requires { n + 1 < 2 ^ 64 }
-    ensures { result ≡ rows14 n text.now }
+// Line j of kinds 14 and 15, as much of it as there is: nothing of a line that would start further on than a usize can count.
+fn line_row(text: &[u8], j: usize) -> Asked
+    ensures { answered result ≡ line_fault forcing_lines text.now j }
 {
-    let first = faults::fault(reading::part(text, 0, 25), 24, 20, 0, 0);
-    if first.number != 0 {
-        return first;
+    if j == 0 {
+        return faults::fault(reading::part(text, 0, 25), 24, Kind::Elevation, 0, 0);
     }
-    let mut at: usize = 25;
-    for i in 0..n {
-        let j = i + 1;
-        let answer = faults::fault(reading::part(text, at, 41), 40, 21, j as u64, j);
-        if answer.number != 0 {
-            return answer;
-        }
-        at += 41;
-    }
-    rows::tested(text.len() <= at, 20, n + 1)
+    let at = (j - 1).saturating_mul(41).saturating_add(25);
+    faults::fault(reading::part(text, at, 41), 40, Kind::Wind, j as u64, j)
+}
+
+// The lines of kinds 14 and 15 in turn, and then the bytes after the last.
+fn rows_14(n: usize, text: &[u8]) -> Asked
+    requires { n + 1 < 2 ^ 64 }
+    ensures { answered result ≡ rows14 n text.now }
+{
+    rows::scan(n + 1, |j| line_row(text, j))?;
+    rows::tested(text.len() <= 25 + 41 * n, Row::Framing, n + 1)
 }
 
 // Wx' and Wy' of node i, each into its run after the elevation.
@@ -67,26 +67,17 @@ fn fill_14(room: &mut [f64], n: usize, text: &[u8])
 
 // Reads one forcing into a room of 1 + 2N numbers: the elevation, Wx' of all nodes, Wy' of all nodes. A line of kind 10 has the sequence number that is
 // expected, which may be one that no line has. Nothing is written before every row has accepted.
-pub fn read_forcing(room: &mut [f64], text: &[u8], expected: u32) -> Answer
-    ensures { taken result room.new ≡ taken_of room.old text.now expected }
+pub fn read_forcing(room: &mut [f64], text: &[u8], expected: u32) -> Asked
+    ensures { taken (answered result) room.new ≡ taken_of room.old text.now expected }
 {
     let n = room.len() / 2;
-    let shape = rows::tested(room.len() % 2 == 1, 1, 0);
-    if shape.number != 0 {
-        return shape;
-    }
+    rows::tested(room.len() % 2 == 1, Row::Lengths, 0)?;
     if reading::starts(text, b'1', b'0') {
-        let line = faults::fault(text, 56, 16, expected as u64, 0);
-        if line.number != 0 {
-            return line;
-        }
+        faults::fault(text, 56, Kind::Forcing, expected as u64, 0)?;
         fill_10(room, n, text);
-        return line;
+    } else {
+        rows_14(n, text)?;
+        fill_14(room, n, text);
     }
-    let lines = rows_14(n, text);
-    if lines.number != 0 {
-        return lines;
-    }
-    fill_14(room, n, text);
-    lines
+    Ok(())
 }
