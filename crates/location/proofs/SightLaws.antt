@@ -64,7 +64,7 @@ module _ (x y : List ℤ) (tri : List ℕ) (p : Point) where
         let its = q ∙ ap inside e ∙ sym (ap (λ (b : Bool). cond b (inside (triangle_of x y tri p)) plus0) h) in
         λ i. with (e i) (its i)
 
-    seen_outside : is_inside x y tri p ≡ false → with (length tri / 3) plus0 ≡ sighted x y tri p z
+    pub seen_outside : is_inside x y tri p ≡ false → with (length tri / 3) plus0 ≡ sighted x y tri p z
     unfolding sighted level_of triangle_of
     seen_outside h =
         let e : length tri / 3 ≡ triangle_of x y tri p = omega (arith, lowest_most (contains x y tri p) (length tri / 3), ltb-false _ _ h) in
