@@ -9,11 +9,14 @@ use borrow.Author.Tests.{eq-eqb, ne_eqb, lt-ltb}
 use lib.Dec.{eqb}
 use lib.ListN.{length, take, drop, get_or}
 use lib.Seq.{take_all, take-append_seam}
+use Rattle.std.specs.Prelude.{Option, Some, None, is_some, Ok, Err}
 use lib.Ieee.{Float, nan, binary64, of_bits}
 use Rattle.rows.specs.declared.Answer.{Answer}
 use Rattle.rows.specs.Numbers.{plus0}
-use Rattle.rows.specs.Scan.{◌then◌}
-use Rattle.rows.proofs.ScanLaws.{then_first, then_rest, then_same, stops}
+use Rattle.rows.specs.declared.Refusal.{Refusal}
+use Rattle.rows.specs.Scan.{accepted, ◌then◌}
+use Rattle.rows.specs.Refusals.{answered}
+use Rattle.rows.proofs.ScanLaws.{then_first, then_rest, stops}
 use Rattle.lists.specs.Table.{copied}
 use Rattle.lists.proofs.TableLaws.{length_table, get_d_table}
 use Rattle.mesh.specs.Lent.{N, E}
@@ -25,15 +28,15 @@ use Rattle.bounds.specs.State.{row1_state, run_rows}
 use Rattle.bounds.proofs.StateLaws.{long_state, accepted_run}
 use Rattle.crossing.specs.Crossing.{signed, elements}
 use Rattle.location.specs.declared.Points.{Points}
-use Rattle.location.specs.declared.Sightings.{Sightings}
 use Rattle.location.specs.declared.seeking.Point.{Point}
-use Rattle.location.specs.Location.{triangle_of}
-use Rattle.location.specs.Survey.{most, point_of, seen, unseen, survey_of}
+use Rattle.location.specs.declared.seeking.Sighting.{Sighting}
+use Rattle.location.specs.Location.{triangle_of, sighted}
+use Rattle.location.specs.Survey.{Sightings, most, present, point_of, seen, unseen, survey_of}
 use Rattle.location.proofs.LowestLaws.{lowest_most}
-use Rattle.location.proofs.SightLaws.{survey_refused, survey_accepted}
-use Rattle.looking.specs.declared.Sight.{Sight}
+use Rattle.location.proofs.SightLaws.{seen_outside, survey_refused, survey_accepted}
+use Rattle.looking.specs.declared.Sight as code
 use Rattle.looking.specs.Lent.{Lent, mesh_in, state_in, row1_bytes, lent_rows}
-use Rattle.looking.specs.Looking.{look_of, is_on, triangle_at, level_at, sight_of}
+use Rattle.looking.specs.Looking.{Sight, found_in, look_of, is_on, triangle_at, level_at, sight_of}
 use Rattle.looking.specs.Private.{Sizes}
 
 -- ---- the elements of a slice
@@ -124,6 +127,13 @@ module _ (b : Lent) (q : Point) where
   sight_accepted {a} e h et ei el =
       (λ i. sight a (et i) (ei i) (el i)) ∙ ap (by a) (sym (eq-eqb a.number 0 h)) ∙ ap (λ (r : Answer). by r (eqb r.number 0)) e
 
+  -- where no triangle contains the point
+  pub off_found : is_on b q ≡ false → (E (mesh_in b) ≡ triangle_at b q) × (plus0 ≡ level_at b q)
+  unfolding sighted
+  off_found h =
+      let s = seen_outside _ _ _ q (present (mesh_in b) (state_in b)) h in
+      (ap (λ (v : Sighting). v.triangle) s, ap (λ (v : Sighting). v.level) s)
+
   -- fewer than a 32-bit number holds
   pub few_triangles : (lent_rows b).number ≡ 0 → triangle_at b q ≤ 8192
   unfolding lent_rows triangle_of
@@ -144,6 +154,27 @@ module _ (b : Lent) (q : Point) where
     unfolding sight_of
     sight_found ok = e ∙ ap (by (lent_rows b)) (eq-eqb (lent_rows b).number 0 ok)
 
-    -- what follows the rows, and goes by whether a triangle contains the point
-    pub sight_then : (f : Bool → Answer) → (s.answer then f s.inside) ≡ (lent_rows b then f (is_on b q))
-    sight_then f = ap (λ (a : Answer). a then f s.inside) sight_answer ∙ then_same (lent_rows b) _ _ (λ ok. ap (λ (v : Sight). f v.inside) (sight_found ok))
+-- ---- what a call that looks at one point hands back
+module _ (b : Lent) (q : Point) where
+  found_answer : (o : Option code.Sight) → (found_in b (Ok o)).answer ≡ accepted
+  found_answer (Some _) = refl
+  found_answer None = refl
+
+  pub look_refuses : (x : Refusal) → found_in b (Err x) ≡ sight_of b q → answered (Err x) ≡ lent_rows b
+  look_refuses x e = sight_answer b q e
+
+  pub look_accepts : (o : Option code.Sight) → found_in b (Ok o) ≡ sight_of b q → accepted ≡ lent_rows b
+  look_accepts o e = sym (found_answer o) ∙ sight_answer b q e
+
+  found_all : (o : Option code.Sight) → found_in b (Ok o) ≡ sight_of b q → found_in b (Ok o) ≡ sight b q (lent_rows b) (triangle_at b q) (is_on b q) (level_at b q)
+  found_all o e = sight_found b q e (ap (λ (a : Answer). a.number) (sym (look_accepts o e)))
+
+  pub look_on : (o : Option code.Sight) → found_in b (Ok o) ≡ sight_of b q → is_some o ≡ is_on b q
+  look_on (Some s) e = ap (λ (v : Sight). v.inside) (found_all (Some s) e)
+  look_on None e = ap (λ (v : Sight). v.inside) (found_all None e)
+
+  pub look_triangle : (s : code.Sight) → found_in b (Ok (Some s)) ≡ sight_of b q → s.triangle ≡ triangle_at b q
+  look_triangle s e = ap (λ (v : Sight). v.triangle) (found_all (Some s) e)
+
+  pub look_level : (s : code.Sight) → found_in b (Ok (Some s)) ≡ sight_of b q → s.level ≡ level_at b q
+  look_level s e = ap (λ (v : Sight). v.level) (found_all (Some s) e)

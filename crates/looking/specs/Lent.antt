@@ -6,6 +6,7 @@ use Rattle.quantities.specs.declared.Parameters.{Parameters}
 use Rattle.mesh.specs.Lent.{Mesh, mesh}
 use Rattle.bounds.specs.State.{run_rows}
 use Rattle.crossing.specs.Crossing.{ints_of, words_of, floats_of}
+use Rattle.looking.specs.declared.Lent as slices
 
 -- the slices of a mesh and a state, and the parameters of row 9
 pub record Lent : Type 0 where
@@ -19,6 +20,10 @@ pub record Lent : Type 0 where
 
 abbrev pub lent : List ℕ → List ℕ → List ℕ → List ℕ → List ℕ → List ℕ → Parameters → Lent
 lent state x y tri h kind p = record { state = state; x = x; y = y; tri = tri; h = h; kind = kind; p = p }
+
+-- the bytes of slices that are lent
+abbrev pub lent_of : slices.Lent → Lent
+lent_of l = lent l.state.now l.x.now l.y.now l.tri.now l.h.now l.kind.now l.p
 
 module _ (b : Lent) where
   -- the numbers that they are

@@ -3,39 +3,47 @@
 #![tactic(auto)]
 
 ghost use Rattle.std.specs.Prelude.{◌≡◌, length};
-ghost use Rattle.location.specs.Survey.{survey_of};
-ghost use Rattle.looking.specs.Lent.{Lent, lent, mesh_in, state_in, row1_bytes};
-ghost use Rattle.looking.specs.Looking.{look_of, sight_of};
+ghost use Rattle.rows.specs.Refusals.{answered};
+ghost use Rattle.location.specs.Survey.{sightings_of, survey_of};
+ghost use Rattle.looking.specs.Lent.{lent_of, mesh_in, state_in, row1_bytes};
+ghost use Rattle.looking.specs.Looking.{look_of, found_in, sight_of};
 ghost use Rattle.looking.specs.Private.{Sizes};
 
+use lists::slices;
 use location::seeking::Point;
 use location::{Points, Sightings};
+use mesh::Mesh;
 use quantities::Parameters;
-use rows::Answer;
+use rows::{Asked, Refusal, Row};
 
-// What is seen at one point: the rows' answer, and where they accept the triangle, whether there is one, and the elevation.
+// What a call is lent: a state and a mesh, each number in its bytes, and the parameters of row 9.
+#[derive(Clone, Copy)]
+pub struct Lent<'a> {
+    pub state: &'a [u8],
+    pub x: &'a [u8],
+    pub y: &'a [u8],
+    pub tri: &'a [u8],
+    pub h: &'a [u8],
+    pub kind: &'a [u8],
+    pub p: Parameters,
+}
+
+// What is seen at one point: the triangle that contains it, and the elevation there.
 #[derive(Clone, Copy)]
 pub struct Sight {
-    pub answer: Answer,
     pub triangle: u32,
-    pub inside: bool,
     pub level: f64,
 }
 
 // Row 1 of byte slices: each is a whole number of elements.
-fn whole_row(
-    state: &[u8],
-    x: &[u8],
-    y: &[u8],
-    tri: &[u8],
-    h: &[u8],
-    kind: &[u8],
-    p: Parameters,
-) -> Answer
-    ensures { result ≡ row1_bytes (lent state.now x.now y.now tri.now h.now kind.now p) }
+fn whole_row(lent: &Lent<'_>) -> Asked
+    ensures { answered result ≡ row1_bytes (lent_of lent.now) }
 {
-    let mesh = (x.len() % 4 == 0) & (y.len() % 4 == 0) & (tri.len() % 2 == 0) & (h.len() % 8 == 0);
-    rows::tested(mesh & (state.len() % 8 == 0), 1, 0)
+    let nodes = (lent.x.len() % 4 == 0)
+        & (lent.y.len() % 4 == 0)
+        & (lent.tri.len() % 2 == 0)
+        & (lent.h.len() % 8 == 0);
+    rows::tested(nodes & (lent.state.len() % 8 == 0), Row::Lengths, 0)
 }
 
 // The slices decoded into these rooms, which hold them, and what is seen at the points.
@@ -45,56 +53,32 @@ fn decoded(
     nodes: &mut [u16],
     depths: &mut [f64],
     values: &mut [f64],
-    asked: Answer,
+    asked: Asked,
     ps: Points,
-    state: &[u8],
-    x: &[u8],
-    y: &[u8],
-    tri: &[u8],
-    h: &[u8],
-    kind: &[u8],
-    p: Parameters,
-) -> Sightings
-    requires { let b : Lent = lent state.now x.now y.now tri.now h.now kind.now p in Sizes b (length east.old) (length north.old) (length nodes.old) (length depths.old) (length values.old) }
-    ensures { let b : Lent = lent state.now x.now y.now tri.now h.now kind.now p in result ≡ survey_of asked (mesh_in b) b.p (state_in b) ps }
+    lent: &Lent<'_>,
+) -> Result<Sightings, Refusal>
+    requires { Sizes (lent_of lent.now) (length east.old) (length north.old) (length nodes.old) (length depths.old) (length values.old) }
+    ensures { sightings_of result ≡ survey_of (answered asked) (mesh_in (lent_of lent.now)) lent.now.p (state_in (lent_of lent.now)) ps }
 {
-    crossing::ints_into(east, x);
-    crossing::ints_into(north, y);
-    crossing::words_into(nodes, tri);
-    crossing::floats_into(depths, h);
-    crossing::floats_into(values, state);
-    let n = x.len() / 4;
-    let rows = y.len() / 4;
-    let corners = tri.len() / 2;
-    let deep = h.len() / 8;
-    let numbers = state.len() / 8;
-    location::survey(
-        asked,
-        ps,
-        &east[0..n],
-        &north[0..rows],
-        &nodes[0..corners],
-        &depths[0..deep],
-        kind,
-        p,
-        &values[0..numbers],
-    )
+    crossing::ints_into(east, lent.x);
+    crossing::ints_into(north, lent.y);
+    crossing::words_into(nodes, lent.tri);
+    crossing::floats_into(depths, lent.h);
+    crossing::floats_into(values, lent.state);
+    let m = Mesh {
+        x: &east[0..lent.x.len() / 4],
+        y: &north[0..lent.y.len() / 4],
+        tri: &nodes[0..lent.tri.len() / 2],
+        h: &depths[0..lent.h.len() / 8],
+        kind: lent.kind,
+    };
+    location::survey(asked, ps, &m, lent.p, &values[0..lent.state.len() / 8])
 }
 
 // The same with rooms of full size.
-fn at_full_size(
-    asked: Answer,
-    ps: Points,
-    state: &[u8],
-    x: &[u8],
-    y: &[u8],
-    tri: &[u8],
-    h: &[u8],
-    kind: &[u8],
-    p: Parameters,
-) -> Sightings
-    requires { let b : Lent = lent state.now x.now y.now tri.now h.now kind.now p in Sizes b 4096 4096 24576 4096 24576 }
-    ensures { let b : Lent = lent state.now x.now y.now tri.now h.now kind.now p in result ≡ survey_of asked (mesh_in b) b.p (state_in b) ps }
+fn at_full_size(asked: Asked, ps: Points, lent: &Lent<'_>) -> Result<Sightings, Refusal>
+    requires { Sizes (lent_of lent.now) 4096 4096 24576 4096 24576 }
+    ensures { sightings_of result ≡ survey_of (answered asked) (mesh_in (lent_of lent.now)) lent.now.p (state_in (lent_of lent.now)) ps }
 {
     let mut east: [i32; 4096] = [0; 4096];
     let mut north: [i32; 4096] = [0; 4096];
@@ -109,85 +93,45 @@ fn at_full_size(
         &mut values,
         asked,
         ps,
-        state,
-        x,
-        y,
-        tri,
-        h,
-        kind,
-        p,
+        lent,
     )
 }
 
 // Rows 1 to 10, and where they accept what is seen at the points. Rows 1 and 2 are asked of the lengths before anything is decoded.
-pub fn look(
-    ps: Points,
-    state: &[u8],
-    x: &[u8],
-    y: &[u8],
-    tri: &[u8],
-    h: &[u8],
-    kind: &[u8],
-    p: Parameters,
-) -> Sightings
-    ensures { result ≡ look_of (lent state.now x.now y.now tri.now h.now kind.now p) ps }
+pub fn look(lent: &Lent<'_>, ps: Points) -> Result<Sightings, Refusal>
+    ensures { sightings_of result ≡ look_of (lent_of lent.now) ps }
 {
-    let n = x.len() / 4;
-    let whole = whole_row(state, x, y, tri, h, kind, p);
-    let long = rows::tested(
-        lists::slices::is_runs(state.len() / 8, bounds::STATE_RUNS, n),
-        1,
-        0,
-    );
-    let sizes = mesh::size_rows(
-        rows::first(whole, long),
+    let n = lent.x.len() / 4;
+    let whole = whole_row(lent);
+    let long = slices::is_runs(lent.state.len() / 8, bounds::STATE_RUNS, n);
+    mesh::size_rows(
+        rows::first(whole, rows::tested(long, Row::Lengths, 0)),
         n,
-        y.len() / 4,
-        tri.len() / 2,
-        h.len() / 8,
-        kind.len(),
-    );
-    if sizes.number != 0 {
-        return location::nothing(sizes);
-    }
-    at_full_size(whole, ps, state, x, y, tri, h, kind, p)
+        lent.y.len() / 4,
+        lent.tri.len() / 2,
+        lent.h.len() / 8,
+        lent.kind.len(),
+    )?;
+    at_full_size(whole, ps, lent)
 }
 
-// What is seen at one point.
-pub fn look_at(
-    q: Point,
-    state: &[u8],
-    x: &[u8],
-    y: &[u8],
-    tri: &[u8],
-    h: &[u8],
-    kind: &[u8],
-    p: Parameters,
-) -> Sight
-    ensures { result ≡ sight_of (lent state.now x.now y.now tri.now h.now kind.now p) q }
+// What is seen at one point, where some triangle contains it.
+pub fn look_at(lent: &Lent<'_>, q: Point) -> Result<Option<Sight>, Refusal>
+    ensures { found_in (lent_of lent.now) result ≡ sight_of (lent_of lent.now) q }
 {
     let ps = Points {
         count: 1,
         x: [q.x; 64],
         y: [q.y; 64],
     };
-    let seen = look(ps, state, x, y, tri, h, kind, p);
-    let answer = seen.answer;
-    if answer.number != 0 {
-        return Sight {
-            answer,
-            triangle: 0,
-            inside: false,
-            level: 0.0,
-        };
-    }
+    let seen = look(lent, ps)?;
     let triangle = seen.triangle[0];
-    let inside = triangle < tri.len() / 2 / 3;
-    let level = seen.level[0];
-    Sight {
-        answer,
-        triangle: triangle as u32,
-        inside,
-        level,
+    if triangle < lent.tri.len() / 2 / 3 {
+        Ok(Some(Sight {
+            triangle: triangle as u32,
+            level: seen.level[0],
+        }))
+    } else {
+        Ok(None)
     }
 }

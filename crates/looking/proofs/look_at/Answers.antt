@@ -1,55 +1,60 @@
 use Prim.Native.Nat.{◌/◌, ◌≤◌}
 use mathlib.Core.Path.{◌≡◌, refl, sym, ap, ◌∙◌}
+use mathlib.Core.Bool.{false}
 use native.Mathlib.Omega.{arith}
+use borrow.Author.Tests.{lt-ltb, le-ltb}
 use lib.Dec.{ltb}
 use lib.ListN.{length, get_or}
-use lib.Ieee.{nan, of_bits}
+use lib.Ieee.{nan}
 use mir.Syntax.{w32}
 use mir.Val.{to_z, of_z}
-use Rattle.rows.proofs.ScanLaws.{same_number}
+use Rattle.rows.proofs.RefusalLaws.{refuses, accepts}
 use Rattle.geometry.proofs.SizeLaws.{kept_as}
-use Rattle.looking.specs.Lent.{Lent, lent}
-use Rattle.looking.specs.Looking.{is_on, triangle_at, level_at}
-use Rattle.looking.proofs.LookLaws.{elements_length, look_answer, triangle_seen, level_seen, sight_refused, sight_accepted, few_triangles}
+use Rattle.location.specs.Survey.{sightings_of, unseen}
+use Rattle.location.proofs.SightLaws.{handed_back}
+use Rattle.looking.specs.Lent.{lent_of}
+use Rattle.looking.specs.Looking.{found_in, is_on, triangle_at, level_at}
+use Rattle.looking.proofs.LookLaws.{elements_length, look_answer, triangle_seen, level_seen, sight_refused, sight_accepted, off_found, few_triangles}
 use Rattle.looking.proofs.look_at.Goals as goal
-use Rattle.looking.proofs.look_at.Goals.{Start, Else-answer-ne0}
+use Rattle.looking.proofs.look_at.Goals.{In_ok-seen}
 
-abbrev its : Start → Lent
-its s = let a = s.args in lent a.state.now a.x.now a.y.now a.tri.now a.h.now a.kind.now a.p
-
-pub returns-then-answer-ne0 : goal.returns-then-answer-ne0
-unfolding of_bits
-returns-then-answer-ne0 c =
-    sight_refused (its (goal.at.returns-then-answer-ne0 c).Start) _ (look_answer _ _ c.look-seen.ensures) c.if-answer-ne0.true
+pub returns-in_err-seen : goal.returns-in_err-seen
+unfolding unseen
+returns-in_err-seen c =
+    ap (found_in (lent_of c.args.lent.now)) (handed_back _ _ c.from_residual.ensures.1)
+    ∙ sight_refused (lent_of c.args.lent.now) _ (look_answer _ _ (sym (ap sightings_of c.in_err-seen.was) ∙ c.look.ensures)) (refuses c.in_err-seen.field-0.0 refl)
 
 -- where the rows accept: the point is the one that was asked, and what was seen there
-abbrev b : Else-answer-ne0 → Lent
-b c = let a = c.args in lent a.state.now a.x.now a.y.now a.tri.now a.h.now a.kind.now a.p
-
-here : (c : Else-answer-ne0) → record { x = to_z w32 (of_z w32 c.args.q.x); y = to_z w32 (of_z w32 c.args.q.y) } ≡ c.args.q
+here : (c : In_ok-seen) → record { x = to_z w32 (of_z w32 c.args.q.x); y = to_z w32 (of_z w32 c.args.q.y) } ≡ c.args.q
 here c =
     let q = c.args.q in
-    let g = c.well_formed.0.1.1 in
+    let g = c.well_formed.1.0.1.1 in
     λ i. record { x = kept_as w32 {r = q.x} (record { sfits = g.0.1 }) refl i; y = kept_as w32 {r = q.y} (record { sfits = g.1.0.1 }) refl i }
 
-triangle : (c : Else-answer-ne0) → get_or c.look-seen.result.triangle 0 0 ≡ triangle_at (b c) c.args.q
+triangle : (c : In_ok-seen) → get_or c.in_ok-seen.seen.triangle 0 0 ≡ triangle_at (lent_of c.args.lent.now) c.args.q
 triangle c =
-    triangle_seen (b c) _ c.look-seen.ensures c.if-answer-ne0.false 0 (omega arith) (omega arith) ∙ ap (triangle_at (b c)) (here c)
+    triangle_seen _ _ (sym (ap sightings_of c.in_ok-seen.was) ∙ c.look.ensures) refl 0 (omega arith) (omega arith) ∙ ap (triangle_at (lent_of c.args.lent.now)) (here c)
 
-level : (c : Else-answer-ne0) → get_or c.look-seen.result.level 0 nan ≡ level_at (b c) c.args.q
-level c = level_seen (b c) _ c.look-seen.ensures c.if-answer-ne0.false 0 (omega arith) (omega arith) ∙ ap (level_at (b c)) (here c)
+level : (c : In_ok-seen) → get_or c.in_ok-seen.seen.level 0 nan ≡ level_at (lent_of c.args.lent.now) c.args.q
+level c = level_seen _ _ (sym (ap sightings_of c.in_ok-seen.was) ∙ c.look.ensures) refl 0 (omega arith) (omega arith) ∙ ap (level_at (lent_of c.args.lent.now)) (here c)
 
-inside : (c : Else-answer-ne0) → ltb (get_or c.look-seen.result.triangle 0 0) (length (b c).tri / 2 / 3) ≡ is_on (b c) c.args.q
-inside c = λ i. ltb (triangle c i) (sym (elements_length 2 (λ n. n) (b c).tri) i / 3)
+inside : (c : In_ok-seen) → ltb (get_or c.in_ok-seen.seen.triangle 0 0) (length c.args.lent.now.tri.now / 2 / 3) ≡ is_on (lent_of c.args.lent.now) c.args.q
+inside c = λ i. ltb (triangle c i) (sym (elements_length 2 (λ n. n) c.args.lent.now.tri.now) i / 3)
 
-few : (c : Else-answer-ne0) → get_or c.look-seen.result.triangle 0 0 ≤ 8192
-few c =
-    rw (triangle c) (few_triangles (b c) c.args.q (same_number (look_answer (b c) _ c.look-seen.ensures) c.if-answer-ne0.false))
-
-pub returns : goal.returns
-returns c =
-    let e = (goal.at.returns c).Else-answer-ne0 in
-    sight_accepted (b e) c.args.q (look_answer _ _ c.look-seen.ensures) c.if-answer-ne0.false (triangle e) (inside e) (level e)
+few : (c : In_ok-seen) → get_or c.in_ok-seen.seen.triangle 0 0 ≤ 8192
+few c = rw (triangle c) (few_triangles (lent_of c.args.lent.now) c.args.q (accepts (look_answer _ _ (sym (ap sightings_of c.in_ok-seen.was) ∙ c.look.ensures))))
 
 pub overflow_cast-result : goal.overflow_cast-result
-overflow_cast-result c = record { fits = omega (arith, few (goal.at.overflow_cast-result c).Else-answer-ne0) }
+overflow_cast-result c = record { fits = omega (arith, few (goal.at.overflow_cast-result c).In_ok-seen) }
+
+pub returns-then-triangle-lent : goal.returns-then-triangle-lent
+returns-then-triangle-lent c =
+    let e = (goal.at.returns-then-triangle-lent c).In_ok-seen in
+    sight_accepted (lent_of c.args.lent.now) c.args.q (look_answer _ _ (sym (ap sightings_of c.in_ok-seen.was) ∙ c.look.ensures)) refl (triangle e) (sym (lt-ltb _ _ c.if-triangle-lent.true) ∙ inside e) (level e)
+
+pub returns-else-triangle-lent : goal.returns-else-triangle-lent
+returns-else-triangle-lent c =
+    let e = (goal.at.returns-else-triangle-lent c).In_ok-seen in
+    let off : false ≡ is_on (lent_of c.args.lent.now) c.args.q = sym (le-ltb _ _ c.if-triangle-lent.false) ∙ inside e in
+    let found = off_found (lent_of c.args.lent.now) c.args.q (sym off) in
+    sight_accepted (lent_of c.args.lent.now) c.args.q (look_answer _ _ (sym (ap sightings_of c.in_ok-seen.was) ∙ c.look.ensures)) refl found.0 off found.1
