@@ -2,7 +2,7 @@
 use Rattle.std.specs.Prelude.{ℕ, ◌+◌, ◌*◌, ◌/◌, cond, List, ltb, ℤ, length, get_or, Float}
 use Rattle.lists.specs.Gather.{Three}
 use Rattle.geometry.specs.declared.Corners.{Corners}
-use Rattle.mesh.specs.declared.Mesh as slices
+use Rattle.mesh.specs.declared.lent.Mesh as slices
 
 -- "Per node: x and y in whole metres (32-bit signed), depth h, kind 0 (free), 1 (open), 2 (held land)." tri: three node numbers for each triangle
 pub record Mesh : Type 0 where

@@ -1,6 +1,7 @@
 // The mesh as it is lent, and rows 1 to 5 of the refusal table, in the document's order.
 #![tactic(auto)]
 
+pub(crate) mod lent;
 pub mod reading;
 pub(crate) mod triangles;
 
@@ -9,17 +10,8 @@ ghost use Rattle.rows.specs.Refusals.{answered};
 ghost use Rattle.mesh.specs.Lent.{mesh_of};
 ghost use Rattle.mesh.specs.Rows.{size_rows, shape_rows};
 
+pub use lent::Mesh;
 use rows::{Asked, Row};
-
-// The mesh, as it is lent: x, y, depth and kind of each node, and three node numbers for each triangle.
-#[derive(Clone, Copy)]
-pub struct Mesh<'a> {
-    pub x: &'a [i32],
-    pub y: &'a [i32],
-    pub tri: &'a [u16],
-    pub h: &'a [f64],
-    pub kind: &'a [u8],
-}
 
 // What the call tests before, then rows 1 and 2 of slices of these lengths.
 pub fn size_rows(asked: Asked, n: usize, y: usize, tri: usize, h: usize, kind: usize) -> Asked

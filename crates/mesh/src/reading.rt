@@ -4,7 +4,7 @@ ghost use Rattle.geometry.specs.Geometry.{nodes_of};
 ghost use Rattle.mesh.specs.Lent.{corners_at};
 ghost use Rattle.mesh.specs.Geometry.{places_of};
 
-use super::Mesh;
+use super::lent::Mesh;
 use geometry::{Corners, Places};
 
 // The node number at a place of the triangle list.

@@ -7,7 +7,8 @@ ghost use Rattle.geometry.specs.Geometry.{nodes_of};
 ghost use Rattle.mesh.specs.Geometry.{places_of};
 ghost use Rattle.mesh.specs.Rows.{triangle_rows};
 
-use super::{Mesh, reading};
+use super::lent::Mesh;
+use super::reading;
 use geometry::{Corners, Places};
 use rows::{Asked, Row};
 
