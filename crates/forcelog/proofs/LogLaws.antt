@@ -15,8 +15,7 @@ use Rattle.surge.specs.Step.{StepOut}
 use Rattle.forcings.specs.Forcings.{is_room, of_kind10, rows10, rows14, Taken, taken_of}
 use Rattle.forcings.proofs.ForcingLaws.{answer_10, answer_14}
 use Rattle.forcelog.specs.declared.Log.{Log}
-use Rattle.forcelog.specs.declared.Took.{Took}
-use Rattle.forcelog.specs.Log.{stepped, lines_in, later, refused_at, gone, after_step, after_read, expected, reading, take_of}
+use Rattle.forcelog.specs.Log.{Took, stepped, lines_in, later, refused_at, gone, after_step, after_read, expected, reading, take_of}
 
 -- ---- what a reading answers, by the text's kind
 reading_room : is_room (zeros 7) ≡ true

@@ -1,6 +1,6 @@
 -- The save at the end is never refused: a cold log can be saved, and so can each log that a forcing was taken into.
 use Prim.Native.Nat.{ℕ, ◌+◌, ◌^◌, ◌≤◌}
-use mathlib.Core.Path.{◌≡◌, refl, sym, ap, ◌∙◌}
+use mathlib.Core.Path.{◌≡◌, refl, sym, ap, subst, ◌∙◌}
 use mathlib.Core.Bool.{Bool, true, false, cond}
 use mathlib.Core.List.{List, [], append-nil}
 use native.Mathlib.Omega.{arith}
@@ -9,8 +9,11 @@ use lib.Dec.{lit≤, ltb}
 use lib.ListN.{length, drop}
 use lib.Seq.{drop-length}
 use lib.Ieee.{Float}
+use Rattle.std.specs.Prelude.{Result, Ok, Err, IsOk}
 use Rattle.lists.specs.Table.{table}
+use Rattle.rows.specs.declared.Refusal.{Refusal}
 use Rattle.rows.specs.Scan.{row, ◌then◌}
+use Rattle.rows.proofs.RefusalLaws.{refuses}
 use Rattle.bounds.specs.State.{run_rows}
 use Rattle.bounds.specs.Forcing.{row1_forcing}
 use Rattle.mesh.specs.Lent.{N}
@@ -22,12 +25,11 @@ use Rattle.surge.proofs.StepLaws.{went_on_lem, not_last}
 use Rattle.surge.proofs.NextLaws.{next_rows}
 use Rattle.surge.proofs.ColdLaws.{cold_rows, opened_mesh}
 use Rattle.forcings.specs.Forcings.{of_kind10}
-use Rattle.saves.specs.Save.{save_answer, save_out, wrote, save_of}
+use Rattle.saves.specs.Save.{SaveOut, save_answer, saved, save_out, wrote, save_of}
 use Rattle.saves.proofs.SaveLaws.{save_fine}
 use Rattle.forcelog.specs.declared.Log.{Log}
-use Rattle.forcelog.specs.declared.Took.{Took}
 use Rattle.forcelog.specs.MeshT.{T, T_parameters}
-use Rattle.forcelog.specs.Log.{cold_log, rooms, stepped, lines_in, later, reading, take_of, end_of}
+use Rattle.forcelog.specs.Log.{cold_log, Took, took, rooms, stepped, lines_in, later, reading, take_of, end_of}
 use Rattle.forcelog.specs.Printed.{ending}
 use Rattle.forcelog.specs.Private.{Savable}
 use Rattle.forcelog.proofs.LogLaws.{took_step}
@@ -82,9 +84,10 @@ take_savable text log k h =
     )
 
 -- what the program's loop goes on with: a forcing that is taken is counted, and leaves a log that can be saved
-pub taken_on : (text : List ℕ) (log : Log) (t : Took) → Savable log → t ≡ take_of text log → t.answer.number ≡ 0
-    → (t.log.clock.step ≡ log.clock.step + 1) × Savable t.log
-taken_on text log t kept e h = rw e (take_savable text log kept (ap (λ (x : Took). x.answer.number) (sym e) ∙ h))
+pub taken_on : (text : List ℕ) (log next : Log) → Savable log → took log (Ok next) ≡ take_of text log
+    → (next.clock.step ≡ log.clock.step + 1) × Savable next
+taken_on text log next kept e =
+    subst (λ (t : Took). (t.log.clock.step ≡ log.clock.step + 1) × Savable t.log) (sym e) (take_savable text log kept (ap (λ (t : Took). t.answer.number) (sym e)))
 
 -- ---- why no forcing is refused by 1 to 10: of such a log, a step passes all rows before 11 for a forcing of T's 7 numbers
 pub next_may : (log : Log) (f : List Float) → Savable log → length f ≡ 7
@@ -94,12 +97,17 @@ next_may log f k long = rw long k.rows
 
 -- ---- the save of a log that can be saved, in a room of its length, is the whole text
 module _ (log : Log) (k : Savable log) (t : List ℕ) (long : length t ≡ 442) where
-  answered : (save_answer T T_parameters log.state t).number ≡ 0
+  accepts : (save_answer T T_parameters log.state t).number ≡ 0
   unfolding T
-  answered = save_fine T T_parameters log.state log.clock t k.rows (rw long (lit≤ tt))
+  accepts = save_fine T T_parameters log.state log.clock t k.rows (rw long (lit≤ tt))
 
   pub end_saved : end_of log t ≡ save_out (wrote 442) (ending log)
   unfolding end_of save_of T
   end_saved =
       let none : drop 442 t ≡ [] = ap (λ (n : ℕ). drop n t) (sym long) ∙ drop-length t in
-      rw (eq-eqb _ _ answered) (rw (none, append-nil))
+      rw (eq-eqb _ _ accepts) (rw (none, append-nil))
+
+  -- and so what a call hands back that saves it is no refusal
+  pub is_saved : (q : Result ℕ Refusal) (text : List ℕ) → save_out (saved q) text ≡ end_of log t → IsOk q
+  is_saved (Ok n) text e = refl
+  is_saved (Err x) text e = absurd (refuses x (ap (λ (o : SaveOut). o.answer) (e ∙ end_saved)) refl)

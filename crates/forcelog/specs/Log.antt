@@ -1,6 +1,9 @@
 -- Document 01, "The printing program", and document 02, #105: a log of forcings, taken one by one.
-use Rattle.std.specs.Prelude.{ℕ, ◌+◌, ◌^◌, cond, List, eqb, ltb, Float}
+use Rattle.std.specs.Prelude.{ℕ, ◌+◌, ◌^◌, cond, List, Result, Ok, Err, eqb, ltb, Float}
 use Rattle.rows.specs.declared.Answer.{Answer}
+use Rattle.rows.specs.declared.Refusal.{Refusal}
+use Rattle.rows.specs.Scan.{accepted}
+use Rattle.rows.specs.Refusals.{answered}
 use Rattle.lists.specs.Table.{table, zeros}
 use Rattle.surge.specs.Lent.{run, cold_state, cold_clock}
 use Rattle.surge.specs.Step.{StepOut, step_of}
@@ -8,7 +11,6 @@ use Rattle.passes.specs.Settle.{Rooms, lent_rooms}
 use Rattle.forcings.specs.Forcings.{of_kind10, Taken, taken_of}
 use Rattle.saves.specs.Save.{SaveOut, save_of}
 use Rattle.forcelog.specs.declared.Log.{Log}
-use Rattle.forcelog.specs.declared.Took.{Took}
 use Rattle.forcelog.specs.MeshT.{T, T_parameters}
 
 -- "A cold start is all +0, step 0"; no line taken
@@ -33,6 +35,15 @@ unfoldable pub later : ℕ → ℕ → ℕ
 later lines k = cond (ltb (lines + k) (2 ^ 64)) (lines + k) lines
 
 -- ---- what taking a forcing leaves
+pub record Took : Type 0 where
+  pub answer : Answer
+  pub log : Log
+
+-- a call's result as what it leaves: a refusal leaves the log as it was
+abbrev pub took : Log → Result Log Refusal → Took
+took log (Ok next) = record { answer = accepted; log = next }
+took log (Err refusal) = record { answer = answered (Err refusal); log = log }
+
 -- "R the number and P the input line from 0"
 abbrev pub refused_at : Answer → ℕ → Log → Took
 refused_at a place log = record { answer = record { number = a.number; place = place; value = a.value }; log = log }

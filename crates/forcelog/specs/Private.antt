@@ -1,5 +1,6 @@
 -- What a log is between two forcings, for laws and for the contracts of private functions. No public contract cites it.
-use Rattle.std.specs.Prelude.{◌*◌, ◌≤◌, ◌≡◌}
+use Rattle.std.specs.Prelude.{ℕ, ◌*◌, ◌≤◌, ◌≡◌}
+use Rattle.rows.specs.declared.Refusal.{Refusal}
 use Rattle.rows.specs.Scan.{accepted}
 use Rattle.bounds.specs.State.{run_rows}
 use Rattle.forcelog.specs.declared.Log.{Log}
@@ -10,3 +11,7 @@ pub record Savable (log : Log) : Type 0 where
   pub rows : (run_rows accepted T T_parameters log.state).number ≡ 0
   pub steps : log.clock.step ≤ 4294967295
   pub lines : log.lines ≤ 4 * log.clock.step
+
+-- a refusal at an input line
+abbrev pub at_line : ℕ → Refusal → Refusal
+at_line line r = record { row = r.row; place = line; value = r.value }

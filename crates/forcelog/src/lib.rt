@@ -2,24 +2,24 @@
 #![tactic(auto)]
 
 ghost use Rattle.std.specs.Prelude.{◌≡◌};
-ghost use Rattle.saves.specs.Save.{save_out};
-ghost use Rattle.forcelog.specs.Log.{cold_log, stepped, lines_in, later, refused_at, after_step, take_of, end_of};
+ghost use Rattle.saves.specs.Save.{saved, save_out};
+ghost use Rattle.forcelog.specs.Log.{cold_log, stepped, lines_in, later, took, after_step, take_of, end_of};
+ghost use Rattle.forcelog.specs.Private.{at_line};
 
 use frames::reading;
+use mesh::Mesh;
 use quantities::Parameters;
-use rows::Answer;
+use rows::Refusal;
 use surge::Clock;
 
 // Mesh T.
-const X: [i32; 3] = [0, 100, 0];
-
-const Y: [i32; 3] = [0, 0, 100];
-
-const TRI: [u16; 3] = [0, 1, 2];
-
-const H: [f64; 3] = [8.0, 8.0, 8.0];
-
-const KIND: [u8; 3] = [0, 0, 0];
+const MESH: Mesh<'static> = Mesh {
+    x: &[0, 100, 0],
+    y: &[0, 0, 100],
+    tri: &[0, 1, 2],
+    h: &[8.0, 8.0, 8.0],
+    kind: &[0, 0, 0],
+};
 
 const P: Parameters = Parameters {
     dt: 1.0,
@@ -37,20 +37,12 @@ pub struct Log {
     pub state: [f64; 18],
 }
 
-// What taking a forcing hands back. The place of a refusal is the input line.
-#[derive(Drop)]
-pub struct Took {
-    pub answer: Answer,
-    pub log: Log,
-}
-
 // Mesh T opened, and no line taken.
 pub fn cold() -> Log
     ensures { result ≡ cold_log }
 {
     let mut state = [0.0; 18];
-    let opened = surge::open(&mut state, &X, &Y, &TRI, &H, &KIND, P);
-    let clock = opened.clock;
+    let clock = surge::open(&mut state, &MESH, P).unwrap();
     Log {
         lines: 0,
         clock,
@@ -72,71 +64,53 @@ fn lines_in(text: &[u8]) -> usize
 fn later(lines: usize, more: usize) -> usize
     ensures { result ≡ later lines more }
 {
-    if more > 18446744073709551615 - lines {
-        return lines;
-    }
-    lines + more
+    lines.checked_add(more).unwrap_or(lines)
 }
 
-// A refusal at an input line, which leaves the log as it was.
-fn refused(answer: Answer, place: usize, log: Log) -> Took
-    ensures { result ≡ refused_at answer place log }
+// A refusal at an input line.
+fn at_line(line: usize, refusal: Refusal) -> Refusal
+    ensures { result ≡ at_line line refusal }
 {
-    let at_line = Answer {
-        number: answer.number,
-        place,
-        value: answer.value,
-    };
-    Took {
-        answer: at_line,
-        log,
+    Refusal {
+        place: line,
+        ..refusal
     }
 }
 
 // The step of a forcing that was read, of so many lines. It is refused at the forcing's first line, which is the one that is due.
-fn step(forcing: &[f64], lines: usize, log: Log) -> Took
-    ensures { result ≡ after_step (stepped log forcing.now) lines log }
+fn step(forcing: &[f64], lines: usize, log: &Log) -> Result<Log, Refusal>
+    ensures { took log.now result ≡ after_step (stepped log.now forcing.now) lines log.now }
 {
-    let state = log.state;
-    let clock = log.clock;
     let mut next = [0.0; 18];
     let mut work = [0.0; 15];
     let mut sums = [0u64; 3];
-    let reply = surge::step(
-        &mut next, &mut work, &mut sums, &state, forcing, &X, &Y, &TRI, &H, &KIND, P, clock,
-    );
-    let answer = reply.answer;
-    if answer.number != 0 {
-        return refused(answer, log.lines, log);
+    match surge::step(
+        &mut next, &mut work, &mut sums, &log.state, forcing, &MESH, P, log.clock,
+    ) {
+        Ok(clock) => Ok(Log {
+            lines: later(log.lines, lines),
+            clock,
+            state: next,
+        }),
+        Err(refusal) => Err(at_line(log.lines, refusal)),
     }
-    let lines = later(log.lines, lines);
-    let clock = reply.clock;
-    let log = Log {
-        lines,
-        clock,
-        state: next,
-    };
-    Took { answer, log }
 }
 
-// The next forcing is read and stepped by. Of a line of kind 10 the sequence that is expected is how many forcings were taken.
-pub fn take(text: &[u8], log: Log) -> Took
-    ensures { result ≡ take_of text.now log }
+// The next forcing is read and stepped by. The place of a refusal is the input line. Of a line of kind 10 the sequence that is expected is how many forcings
+// were taken.
+pub fn take(text: &[u8], log: &Log) -> Result<Log, Refusal>
+    ensures { took log.now result ≡ take_of text.now log.now }
 {
-    let clock = log.clock;
     let mut forcing = [0.0; 7];
-    let fault = forcings::read_forcing(&mut forcing, text, clock.step);
-    if fault.number != 0 {
-        let place = later(log.lines, fault.place);
-        return refused(fault, place, log);
+    match forcings::read_forcing(&mut forcing, text, log.clock.step) {
+        Ok(()) => step(&forcing, lines_in(text), log),
+        Err(fault) => Err(at_line(later(log.lines, fault.place), fault)),
     }
-    step(&forcing, lines_in(text), log)
 }
 
-// The save of the log's run.
-pub fn end(text: &mut [u8], log: Log) -> Answer
-    ensures { save_out result text.new ≡ end_of log text.old }
+// The save of the log's run. Gives the bytes written.
+pub fn end(text: &mut [u8], log: &Log) -> Result<usize, Refusal>
+    ensures { save_out (saved result) text.new ≡ end_of log.now text.old }
 {
-    let state = log.state;
-    saves::save(text, &state, &X, &Y, &TRI, &H, &KIND, P, log.clock)
+    saves::save(text, &log.state, &MESH, P, log.clock)
 }

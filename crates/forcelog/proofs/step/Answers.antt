@@ -1,29 +1,26 @@
-use mathlib.Core.Path.{◌≡◌, ◌∙◌}
+use mathlib.Core.Path.{◌≡◌, refl}
 use lib.Ieee.{round, of_bits}
+use Rattle.std.specs.Prelude.{Ok, Err}
 use Rattle.lists.specs.Table.{table}
 use Rattle.rows.specs.Numbers.{decimal}
-use Rattle.surge.specs.Step.{StepOut, step_out}
-use Rattle.forcelog.specs.declared.Log.{Log}
+use Rattle.rows.proofs.RefusalLaws.{number_positive}
+use Rattle.surge.specs.Lent.{replied}
+use Rattle.surge.specs.Step.{step_out}
 use Rattle.forcelog.specs.MeshT.{T, T_parameters}
 use Rattle.forcelog.specs.Log.{stepped}
 use Rattle.forcelog.proofs.LogLaws.{step_refused, step_gone}
 use Rattle.forcelog.proofs.step.Goals as goal
-use Rattle.forcelog.proofs.step.Goals.{After-step-reply}
 
-abbrev out : After-step-reply → StepOut
-out c = step_out c.step-reply.result c.step-reply.new.next c.step-reply.new.work c.step-reply.new.sums
-
-abbrev log : After-step-reply → Log
-log c = c.args.log
-
-its : (c : After-step-reply) → out c ≡ stepped (log c) c.args.forcing.now
+pub returns-in-Ok : goal.returns-in-Ok
 unfolding stepped T T_parameters decimal round of_bits table
-its c = c.step-reply.ensures
+returns-in-Ok c =
+    let log = c.args.log.now in
+    let e : step_out (replied log.clock (Ok c.in-Ok.clock)) c.step.new.next c.step.new.work c.step.new.sums ≡ stepped log c.args.forcing.now = c.in-Ok.ensures in
+    rw c.later.ensures (step_gone c.args.lines log _ _ e refl)
 
-pub returns-then-answer-ne0 : goal.returns-then-answer-ne0
-returns-then-answer-ne0 c =
-    c.refused.ensures ∙ step_refused c.args.lines (log (goal.at.returns-then-answer-ne0 c).After-step-reply) (out (goal.at.returns-then-answer-ne0 c).After-step-reply) _ (its (goal.at.returns-then-answer-ne0 c).After-step-reply) c.if-answer-ne0.true
-
-pub returns : goal.returns
-returns c =
-    rw c.later-lines.ensures (step_gone c.args.lines (log (goal.at.returns c).After-step-reply) (out (goal.at.returns c).After-step-reply) _ (its (goal.at.returns c).After-step-reply) c.if-answer-ne0.false)
+pub returns-in-Err : goal.returns-in-Err
+unfolding stepped T T_parameters decimal round of_bits table
+returns-in-Err c =
+    let log = c.args.log.now in
+    let e : step_out (replied log.clock (Err c.in-Err.refusal)) c.step.new.next c.step.new.work c.step.new.sums ≡ stepped log c.args.forcing.now = c.in-Err.ensures in
+    rw c.at_line.ensures (step_refused c.args.lines log _ _ e (number_positive c.in-Err.refusal.row))

@@ -1,26 +1,25 @@
 use mathlib.Core.Path.{◌≡◌, refl, ◌∙◌}
 use lib.Ieee.{of_bits}
+use Rattle.std.specs.Prelude.{Err}
 use Rattle.lists.specs.Table.{table}
-use Rattle.forcings.specs.Forcings.{Taken, taken}
+use Rattle.rows.specs.Scan.{accepted}
+use Rattle.rows.specs.Refusals.{answered}
+use Rattle.rows.proofs.RefusalLaws.{number_positive}
+use Rattle.forcings.specs.Forcings.{taken}
 use Rattle.forcelog.specs.Log.{reading}
 use Rattle.forcelog.proofs.LogLaws.{not_read, was_read}
 use Rattle.forcelog.proofs.take.Goals as goal
-use Rattle.forcelog.proofs.take.Goals.{After-read_forcing-fault}
 
-abbrev out : After-read_forcing-fault → Taken
-out c = taken c.read_forcing-fault.result c.read_forcing-fault.new.room
-
-its : (c : After-read_forcing-fault) → out c ≡ reading c.args.text.now c.args.log
+pub returns-in-Ok : goal.returns-in-Ok
 unfolding of_bits table
-its c = c.read_forcing-fault.ensures
+returns-in-Ok c =
+    let log = c.args.log.now in
+    let e : taken accepted c.read_forcing.new.room ≡ reading c.args.text.now log = c.in-Ok.ensures in
+    c.step.ensures ∙ rw c.lines_in.ensures (was_read c.args.text.now log _ e refl)
 
-pub returns-then-fault-ne0 : goal.returns-then-fault-ne0
-returns-then-fault-ne0 c =
-    c.refused.ensures ∙ rw c.later-place.ensures (not_read _ c.args.log (out (goal.at.returns-then-fault-ne0 c).After-read_forcing-fault) (its (goal.at.returns-then-fault-ne0 c).After-read_forcing-fault) c.if-fault-ne0.true)
-
-pub returns : goal.returns
-returns c =
-    c.step.ensures ∙ rw c.lines_in.ensures (was_read _ c.args.log (out (goal.at.returns c).After-read_forcing-fault) (its (goal.at.returns c).After-read_forcing-fault) c.if-fault-ne0.false)
-
-pub slice_bounds-read_forcing-end : goal.slice_bounds-read_forcing-end
-slice_bounds-read_forcing-end c = refl
+pub returns-in-Err : goal.returns-in-Err
+unfolding of_bits table
+returns-in-Err c =
+    let log = c.args.log.now in
+    let e : taken (answered (Err c.in-Err.fault)) c.read_forcing.new.room ≡ reading c.args.text.now log = c.in-Err.ensures in
+    rw (c.at_line.ensures, c.later.ensures) (not_read c.args.text.now log _ e (number_positive c.in-Err.fault.row))
