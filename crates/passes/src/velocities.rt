@@ -134,14 +134,9 @@ fn refused_flow(n: usize, work: &[f64]) -> Asked
     requires { length work.now ≡ work_runs * n }
     ensures { answered result ≡ scan (λ i. flow_row (record { u = in_run n 1 work.now i; v = in_run n 2 work.now i }) i) n }
 {
-    rows::scan(
-        n,
-        |i| outcomes::flow_row(
-            Flow {
-                u: work[1 * n + i],
-                v: work[2 * n + i],
-            },
-            i,
-        ),
-    )
+    rows::scan(n, |i| {
+        let u = work[1 * n + i];
+        let v = work[2 * n + i];
+        outcomes::flow_row(Flow { u, v }, i)
+    })
 }
