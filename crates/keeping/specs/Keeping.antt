@@ -1,9 +1,10 @@
 -- Document 02, #106: what is done with a record, after what a call tests before it. "Each leaves the peak record as found."
-use Rattle.std.specs.Prelude.{ℕ, Bool, cond, List, eqb, Float}
+use Rattle.std.specs.Prelude.{ℕ, Bool, cond, List, Result, Ok, Err, eqb, Float}
 use Rattle.rows.specs.declared.Answer.{Answer}
-use Rattle.rows.specs.Scan.{row, ◌then◌}
+use Rattle.rows.specs.declared.Refusal.{Refusal}
+use Rattle.rows.specs.Scan.{accepted, row, ◌then◌}
+use Rattle.rows.specs.Refusals.{answered}
 use Rattle.location.specs.declared.seeking.Point.{Point}
-use Rattle.keeping.specs.declared.Given.{Given}
 use Rattle.keeping.specs.Record.{count_in, added, all_noted, row43, row41, row42}
 
 -- what an accepted call gives, and what a refused one leaves
@@ -14,7 +15,15 @@ if_accepted a found left = cond (eqb a.number 0) found left
 unfoldable pub number_rows : List ℕ → ℕ → Answer
 number_rows b g = row43 b then row42 b g
 
--- ---- a gauge more
+-- ---- a gauge more: the answer, and the number given out
+pub record Given : Type 0 where
+  pub answer : Answer
+  pub gauge : ℕ
+
+abbrev pub given_of : Result ℕ Refusal → Given
+given_of (Ok g) = record { answer = accepted; gauge = g }
+given_of (Err r) = record { answer = answered (Err r); gauge = 0 }
+
 pub record AddOut : Type 0 where
   pub given : Given
   pub left : List ℕ

@@ -1,29 +1,53 @@
 // The peak record: what it holds, its refusals, and what is written into it.
 #![tactic(auto)]
 
-ghost use Rattle.std.specs.Prelude.{◌≡◌, ◌+◌, ◌*◌, ◌<◌, ◌≤◌, get_or};
+ghost use Rattle.std.specs.Prelude.{◌≡◌, ◌+◌, ◌*◌, ◌^◌, ◌<◌, ◌≤◌, get_or};
 ghost use Rattle.std.specs.Float.{nan};
-ghost use Rattle.keeping.specs.Record.{row_bytes, field_in, seen_field, count_in, point_in, points_in, mark_in, with_mark, with_point, added, noted, all_noted, row43, keeps};
-ghost use Rattle.keeping.specs.Keeping.{number_rows, add_out, add_of, update_out, update_of};
+ghost use Rattle.rows.specs.Scan.{accepted};
+ghost use Rattle.rows.specs.Refusals.{answered};
+ghost use Rattle.keeping.specs.Record.{row_bytes, field, place_of, field_in, seen_field, with_field, count_in, point_in, points_in, mark_in, with_mark, with_point, added, noted, all_noted, row43, keeps};
+ghost use Rattle.keeping.specs.Keeping.{number_rows, given_of, add_out, add_answer, add_of, update_out, update_of};
 
 use location::Points;
 use location::seeking::Point;
-use rows::Answer;
+use rows::{Asked, Refusal, Row};
 
-// The layout: the count, then a row for each gauge, and where the fields of a row start. Reading and writing share it.
+// The layout: the count, then a row for each gauge.
 const RECORD_BYTES: usize = 1345;
 
 const ROW_BYTES: usize = 21;
 
-const EAST: usize = 0;
+// A field of a row: where it starts there, and how many bytes it has. Reading and writing share it.
+#[derive(Clone, Copy)]
+struct Field {
+    offset: usize,
+    width: usize,
+}
 
-const NORTH: usize = 4;
+const EAST: Field = Field {
+    offset: 0,
+    width: 4,
+};
 
-const SEEN: usize = 8;
+const NORTH: Field = Field {
+    offset: 4,
+    width: 4,
+};
 
-const PEAK: usize = 9;
+const SEEN: Field = Field {
+    offset: 8,
+    width: 1,
+};
 
-const STEP: usize = 17;
+const PEAK: Field = Field {
+    offset: 9,
+    width: 8,
+};
+
+const STEP: Field = Field {
+    offset: 17,
+    width: 4,
+};
 
 // What a record has of a gauge: whether a state was seen, the highest elevation so far, and the first step that had it.
 #[derive(Clone, Copy)]
@@ -33,21 +57,28 @@ pub struct Mark {
     pub step: u32,
 }
 
-// The answer to a gauge that is added, and the number given out.
-#[derive(Clone, Copy)]
-pub struct Given {
-    pub answer: Answer,
-    pub gauge: u32,
-}
-
 // ---- what it holds
 
 // Where a field of row g starts: after the count and g rows.
-fn place_of(g: u32, offset: usize) -> usize
-    requires { offset < row_bytes }
-    ensures { result ≡ 1 + row_bytes * g + offset }
+fn place_of(f: Field, g: u32) -> usize
+    requires { f.offset < row_bytes }
+    ensures { result ≡ place_of (field f.offset f.width) g }
 {
-    1 + ROW_BYTES * (g as usize) + offset
+    1 + ROW_BYTES * (g as usize) + f.offset
+}
+
+fn read(kept: &[u8], f: Field, g: u32) -> u64
+    requires { f.offset < row_bytes }
+    ensures { (result ≡ field_in kept.now (field f.offset f.width) g) × (result < 256 ^ f.width) }
+{
+    crossing::number_at(kept, place_of(f, g), f.width)
+}
+
+fn put(kept: &mut [u8], f: Field, g: u32, v: u64)
+    requires { f.offset < row_bytes }
+    ensures { kept.new ≡ with_field (field f.offset f.width) g v kept.old }
+{
+    crossing::put_number(kept, place_of(f, g), f.width, v);
 }
 
 fn count(kept: &[u8]) -> u32
@@ -59,15 +90,15 @@ fn count(kept: &[u8]) -> u32
 fn seen_at(kept: &[u8], g: u32) -> u8
     ensures { result ≡ field_in kept.now seen_field g }
 {
-    crossing::number_at(kept, place_of(g, SEEN), 1) as u8
+    read(kept, SEEN, g) as u8
 }
 
 pub fn point_at(kept: &[u8], g: u32) -> Point
     ensures { result ≡ point_in kept.now g }
 {
     Point {
-        x: crossing::int_at(kept, place_of(g, EAST)),
-        y: crossing::int_at(kept, place_of(g, NORTH)),
+        x: crossing::int_at(kept, place_of(EAST, g)),
+        y: crossing::int_at(kept, place_of(NORTH, g)),
     }
 }
 
@@ -76,8 +107,8 @@ pub fn mark_at(kept: &[u8], g: u32) -> Mark
 {
     Mark {
         seen: seen_at(kept, g),
-        peak: patterns::float_of(crossing::number_at(kept, place_of(g, PEAK), 8)),
-        step: crossing::number_at(kept, place_of(g, STEP), 4) as u32,
+        peak: patterns::float_of(read(kept, PEAK, g)),
+        step: read(kept, STEP, g) as u32,
     }
 }
 
@@ -89,10 +120,8 @@ pub fn points(kept: &[u8]) -> Points
     let mut y: [i32; 64] = [0; 64];
     for g in 0..64 {
         let q = point_at(kept, g as u32);
-        let east = q.x;
-        let north = q.y;
-        x[g] = east;
-        y[g] = north;
+        x[g] = q.x;
+        y[g] = q.y;
     }
     let all = count(kept) as usize;
     let count = if all <= 64 { all } else { 0 };
@@ -102,29 +131,36 @@ pub fn points(kept: &[u8]) -> Points
 // ---- its refusals
 
 // Row 43: the length and the count, then whether a seen is above 1.
-fn record_rows(kept: &[u8]) -> Answer
-    ensures { result ≡ row43 kept.now }
+fn record_rows(kept: &[u8]) -> Asked
+    ensures { answered result ≡ row43 kept.now }
 {
-    if kept.len() != RECORD_BYTES {
-        return rows::refuse(43, 0);
-    }
-    if 64 < count(kept) {
-        return rows::refuse(43, 0);
-    }
-    for g in 0..64 {
-        if 1 < seen_at(kept, g as u32) {
-            return rows::refuse(43, g);
-        }
-    }
-    rows::accept()
+    rows::tested(
+        (kept.len() == RECORD_BYTES) & (count(kept) <= 64),
+        Row::Record,
+        0,
+    )?;
+    rows::scan(
+        64,
+        |g| rows::tested(seen_at(kept, g as u32) <= 1, Row::Record, g),
+    )
 }
 
 // Row 43, then row 42 of a gauge number.
-pub fn number_rows(kept: &[u8], g: u32) -> Answer
-    ensures { result ≡ number_rows kept.now g }
+pub fn number_rows(kept: &[u8], g: u32) -> Asked
+    ensures { answered result ≡ number_rows kept.now g }
 {
-    let given_out = rows::tested(g < count(kept), 42, g as usize);
-    rows::first(record_rows(kept), given_out)
+    record_rows(kept)?;
+    rows::tested(g < count(kept), Row::GaugeNumber, g as usize)
+}
+
+// Row 43, then row 41 of a gauge more, and row 40 at its number.
+fn add_rows(kept: &[u8], inside: bool) -> Asked
+    ensures { answered result ≡ add_answer accepted inside kept.now }
+{
+    record_rows(kept)?;
+    let g = count(kept);
+    rows::tested(g < 64, Row::FullRecord, 64)?;
+    rows::tested(inside, Row::Outside, g as usize)
 }
 
 // ---- what is written into it
@@ -132,16 +168,16 @@ pub fn number_rows(kept: &[u8], g: u32) -> Answer
 fn put_mark(kept: &mut [u8], g: u32, k: Mark)
     ensures { kept.new ≡ with_mark g k.seen k.peak k.step kept.old }
 {
-    crossing::put_number(kept, place_of(g, SEEN), 1, k.seen as u64);
-    crossing::put_number(kept, place_of(g, PEAK), 8, patterns::pattern_of(k.peak));
-    crossing::put_number(kept, place_of(g, STEP), 4, k.step as u64);
+    put(kept, SEEN, g, k.seen as u64);
+    put(kept, PEAK, g, patterns::pattern_of(k.peak));
+    put(kept, STEP, g, k.step as u64);
 }
 
 fn put_point(kept: &mut [u8], g: u32, q: Point)
     ensures { kept.new ≡ with_point g q kept.old }
 {
-    crossing::put_number(kept, place_of(g, EAST), 4, crossing::pattern_32(q.x));
-    crossing::put_number(kept, place_of(g, NORTH), 4, crossing::pattern_32(q.y));
+    put(kept, EAST, g, crossing::pattern_32(q.x));
+    put(kept, NORTH, g, crossing::pattern_32(q.y));
 }
 
 // The whole row, whatever a foreign record had there, and the count.
@@ -162,22 +198,14 @@ fn put_gauge(kept: &mut [u8], q: Point)
     crossing::put_number(kept, 0, 1, g as u64 + 1);
 }
 
-// Adds a gauge, after what the call tests before.
-pub fn add(kept: &mut [u8], asked: Answer, inside: bool, q: Point) -> Given
-    ensures { add_out result kept.new ≡ add_of asked inside q kept.old }
+// Adds a gauge at a point, and gives out its number. `inside`: whether some triangle contains the point.
+pub fn add(kept: &mut [u8], inside: bool, q: Point) -> Result<u32, Refusal>
+    ensures { add_out (given_of result) kept.new ≡ add_of accepted inside q kept.old }
 {
-    let g = count(kept);
-    let room = rows::tested(g < 64, 41, 64);
-    let found = rows::tested(inside, 40, g as usize);
-    let answer = rows::first(
-        asked,
-        rows::first(record_rows(kept), rows::first(room, found)),
-    );
-    if answer.number != 0 {
-        return Given { answer, gauge: 0 };
-    }
+    add_rows(kept, inside)?;
+    let gauge = count(kept);
     put_gauge(kept, q);
-    Given { answer, gauge: g }
+    Ok(gauge)
 }
 
 // Whether a mark stands beside this elevation: one that is seen, and at least as high.
@@ -213,14 +241,12 @@ fn note_all(kept: &mut [u8], count: usize, level: &[f64; 64], step: u32)
     }
 }
 
-// Hands an elevation to every gauge, after what the call tests before row 43 and after it.
-pub fn update(kept: &mut [u8], asked: Answer, also: Answer, level: &[f64; 64], step: u32) -> Answer
-    ensures { update_out result kept.new ≡ update_of asked also (λ g. get_or level.now g nan) step kept.old }
+// Hands an elevation to every gauge, after row 43 and what else the call tests.
+pub fn update(kept: &mut [u8], also: Asked, level: &[f64; 64], step: u32) -> Asked
+    ensures { update_out (answered result) kept.new ≡ update_of accepted (answered also) (λ g. get_or level.now g nan) step kept.old }
 {
-    let first = rows::first(asked, record_rows(kept));
-    let answer = rows::first(first, also);
-    if answer.number == 0 {
-        note_all(kept, count(kept) as usize, level, step);
-    }
-    answer
+    record_rows(kept)?;
+    also?;
+    note_all(kept, count(kept) as usize, level, step);
+    Ok(())
 }

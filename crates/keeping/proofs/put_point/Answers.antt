@@ -18,11 +18,4 @@ unfolding with_point
 returns c =
     let q = c.args.q in
     let g = c.well_formed.1.1.0.1.1 in
-    rw (
-      c.put_number-2.ensures,
-      handed q.y g.1.0.1 c.pattern_32-2.ensures,
-      c.place_of-2.ensures,
-      c.put_number.ensures,
-      handed q.x g.0.1 c.pattern_32.ensures,
-      c.place_of.ensures,
-    )
+    rw (c.put-2.ensures, handed q.y g.1.0.1 c.pattern_32-2.ensures, c.put.ensures, handed q.x g.0.1 c.pattern_32.ensures)
