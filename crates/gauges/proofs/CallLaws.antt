@@ -9,25 +9,30 @@ use lib.Dec.{ltb, leb}
 use lib.IntN.{pos}
 use lib.ListN.{length, get_or}
 use lib.Ieee.{Float, nan}
+use Rattle.std.specs.Prelude.{Option, Some, None, ok_or, Result, Ok, Err}
+use Rattle.std.specs.Result.{result_and, result_unwrap_or}
 use Rattle.rows.specs.declared.Answer.{Answer}
 use Rattle.rows.specs.Numbers.{plus0}
-use Rattle.rows.specs.Scan.{row, ◌then◌, scan}
-use Rattle.rows.proofs.ScanLaws.{then_first, then_rest, then_same, scan_same}
+use Rattle.rows.specs.declared.Refusal.{Refusal}
+use Rattle.rows.specs.Scan.{accepted, refused, row, ◌then◌, scan}
+use Rattle.rows.specs.Refusals.{answered}
+use Rattle.rows.proofs.ScanLaws.{row_holds, row_fails, then_stop, then_first, then_rest, then_same, scan_same}
+use Rattle.rows.proofs.RefusalLaws.{refuses}
 use Rattle.lists.proofs.TableLaws.{get_d_table}
 use Rattle.crossing.specs.Crossing.{signed}
 use Rattle.location.specs.declared.Points.{Points}
-use Rattle.location.specs.declared.Sightings.{Sightings}
 use Rattle.location.specs.declared.seeking.Point.{Point}
-use Rattle.location.specs.Survey.{most, point_of}
+use Rattle.location.specs.Survey.{Sightings, most, point_of}
 use Rattle.keeping.specs.declared.Mark.{Mark}
 use Rattle.keeping.specs.Record.{east_field, north_field, field_in, count_in, point_in, points_in, mark_in, row43}
 use Rattle.keeping.specs.Keeping as Keeping
-use Rattle.keeping.specs.Keeping.{number_rows}
+use Rattle.keeping.specs.Keeping.{number_rows, given_of}
 use Rattle.keeping.proofs.RecordLaws.{count_most, if_refused, if_accepted_lem, update_same}
 use Rattle.looking.specs.Lent.{Lent, lent_rows}
-use Rattle.looking.specs.Looking.{look_of, triangle_at, level_at}
-use Rattle.looking.proofs.LookLaws.{elements_length, look_answer, triangle_seen, level_seen}
-use Rattle.gauges.specs.Calls.{point, row40, located, locate_answer, locate_of, measured, elevation_answer, elevation_of, all_on, update_of, mark, peaked, peak_of}
+use Rattle.looking.specs.declared.Sight.{Sight}
+use Rattle.looking.specs.Looking.{look_of, found_in, sight_of, triangle_at, level_at}
+use Rattle.looking.proofs.LookLaws.{look_on, elements_length, look_answer, triangle_seen, level_seen}
+use Rattle.gauges.specs.Calls.{point, given, row40, located, located_by, locate_answer, locate_of, measured, measured_by, elevation_answer, elevation_of, all_on, update_of, mark, peaked, peaked_by, peak_of}
 
 module _ (b : Lent) (q : Point) {a : Answer} (e : a ≡ locate_answer b q) where
   pub locate_refused : (a.number ≡ 0 → ⊥) → located a 0 ≡ locate_of b q
@@ -56,6 +61,34 @@ module _ (r : List ℕ) (g : ℕ) {a : Answer} (e : a ≡ number_rows r g) where
   unfolding peak_of
   peak_accepted h v = λ i. peaked (e i) (if_accepted_lem e (mark_in r g) (mark 0 plus0 0) h v i)
 
+-- ---- a refusal stands before what follows
+pub halts : (x : Refusal) {a : Answer} (rest : Answer) → answered (Err x) ≡ a → answered (Err x) ≡ (a then rest)
+halts x {a} rest says = says ∙ sym (then_stop a rest (refuses x says))
+
+-- ---- row 40 of what was seen at a point
+module _ (b : Lent) (q : Point) (place : ℕ) (none : Refusal) (said : answered (Err none) ≡ refused 40 place) where
+  pub row_40 : (o : Option Sight) {r : Result Sight Refusal} → found_in b (Ok o) ≡ sight_of b q → r ≡ ok_or o none → answered (result_and r (Ok tt)) ≡ row40 b q place
+  unfolding row40
+  row_40 (Some s) e d = ap (λ (r : Result Sight Refusal). answered (result_and r (Ok tt))) d ∙ sym (row_holds 40 place (sym (look_on b q (Some s) e)))
+  row_40 None e d = ap (λ (r : Result Sight Refusal). answered (result_and r (Ok tt))) d ∙ said ∙ sym (row_fails 40 place (sym (look_on b q None e)))
+
+-- ---- what a call hands back
+pub located_back : (f : Result ℕ Refusal) {t : ℕ} → t ≡ result_unwrap_or f 0 → located (answered (result_and f (Ok tt))) t ≡ located_by f
+located_back (Ok v) e = ap (located accepted) e
+located_back (Err x) e = ap (located (answered (Err x))) e
+
+pub given_back : (f : Result ℕ Refusal) {g : ℕ} → g ≡ result_unwrap_or f 0 → given (answered (result_and f (Ok tt))) g ≡ given_of f
+given_back (Ok v) e = ap (given accepted) e
+given_back (Err x) e = ap (given (answered (Err x))) e
+
+pub measured_back : (f : Result Float Refusal) {v : Float} → v ≡ result_unwrap_or f plus0 → measured (answered (result_and f (Ok tt))) v ≡ measured_by f
+measured_back (Ok v) e = ap (measured accepted) e
+measured_back (Err x) e = ap (measured (answered (Err x))) e
+
+pub peaked_back : (f : Result Mark Refusal) {k : Mark} → k ≡ result_unwrap_or f (mark 0 plus0 0) → peaked (answered (result_and f (Ok tt))) k ≡ peaked_by f
+peaked_back (Ok v) e = ap (peaked accepted) e
+peaked_back (Err x) e = ap (peaked (answered (Err x))) e
+
 -- ---- an update: what was seen at the points of a record
 pub few_points : (r : List ℕ) {ps : Points} → ps ≡ points_in r → ps.count ≤ most
 unfolding points_in
@@ -74,8 +107,8 @@ module _ (b : Lent) (r : List ℕ) {ps : Points} {s : Sightings} (ep : ps ≡ po
     unfolding points_in
     counted = ap (λ (v : Points). v.count) ep ∙ ap (λ (few : Bool). cond few (count_in r) 0) (le-leb (count_in r) most (count_most r fine))
 
-    accepted : s.answer.number ≡ 0
-    accepted = ap (λ (a : Answer). a.number) asked ∙ ok
+    accepts : s.answer.number ≡ 0
+    accepts = ap (λ (a : Answer). a.number) asked ∙ ok
 
     module _ (g : ℕ) (l : g < count_in r) where
       most_gauges : g < most
@@ -89,10 +122,10 @@ module _ (b : Lent) (r : List ℕ) {ps : Points} {s : Sightings} (ep : ps ≡ po
           (get_d_table most (λ k. signed (field_in r north_field k)) g (pos 0) most_gauges i))
 
       its_triangle : get_or s.triangle g 0 ≡ triangle_at b (point_in r g)
-      its_triangle = triangle_seen b ps es accepted g (omega (arith, l, counted)) most_gauges ∙ ap (triangle_at b) its_point
+      its_triangle = triangle_seen b ps es accepts g (omega (arith, l, counted)) most_gauges ∙ ap (triangle_at b) its_point
 
       its_level : get_or s.level g nan ≡ level_at b (point_in r g)
-      its_level = level_seen b ps es accepted g (omega (arith, l, counted)) most_gauges ∙ ap (level_at b) its_point
+      its_level = level_seen b ps es accepts g (omega (arith, l, counted)) most_gauges ∙ ap (level_at b) its_point
 
     abbrev on_row : ℕ → Answer
     on_row g = row (ltb (get_or s.triangle g 0) (length b.tri / 2 / 3)) 40 g

@@ -1,16 +1,17 @@
 -- Document 02, #106: the calls. "Refusals, gauge number from 0 as place: after rows 1 to 10, 43 …, then 41 …, then 42 …, then 40 exactly when no triangle
 -- contains the point; each leaves the peak record as found." What a call finds comes back beside its answer; a refused call finds 0 and +0.
-use Rattle.std.specs.Prelude.{ℕ, false, List, ℤ, Float}
+use Rattle.std.specs.Prelude.{ℕ, false, List, Result, Ok, Err, ℤ, Float}
 use Rattle.rows.specs.declared.Answer.{Answer}
+use Rattle.rows.specs.declared.Refusal.{Refusal}
 use Rattle.rows.specs.Numbers.{plus0}
-use Rattle.rows.specs.Scan.{row, ◌then◌, scan}
+use Rattle.rows.specs.Scan.{accepted, row, ◌then◌, scan}
+use Rattle.rows.specs.Refusals.{answered}
 use Rattle.quantities.specs.declared.Parameters.{Parameters}
 use Rattle.location.specs.declared.seeking.Point.{Point}
 use Rattle.keeping.specs.declared.Mark.{Mark}
-use Rattle.keeping.specs.declared.Given.{Given}
 use Rattle.keeping.specs.Record.{count_in, point_in, mark_in}
 use Rattle.keeping.specs.Keeping as Keeping
-use Rattle.keeping.specs.Keeping.{if_accepted, number_rows, AddOut, UpdateOut}
+use Rattle.keeping.specs.Keeping.{Given, if_accepted, number_rows, AddOut, UpdateOut}
 use Rattle.looking.specs.Lent.{Lent, lent_rows}
 use Rattle.looking.specs.Looking.{is_on, triangle_at, level_at}
 
@@ -42,6 +43,10 @@ pub record Located : Type 0 where
 abbrev pub located : Answer → ℕ → Located
 located a triangle = record { answer = a; triangle = triangle }
 
+abbrev pub located_by : Result ℕ Refusal → Located
+located_by (Ok triangle) = located accepted triangle
+located_by (Err r) = located (answered (Err r)) 0
+
 unfoldable pub locate_answer : Lent → Point → Answer
 locate_answer b q = lent_rows b then row40 b q 0
 
@@ -59,6 +64,10 @@ pub record Measured : Type 0 where
 
 abbrev pub measured : Answer → Float → Measured
 measured a level = record { answer = a; level = level }
+
+abbrev pub measured_by : Result Float Refusal → Measured
+measured_by (Ok level) = measured accepted level
+measured_by (Err r) = measured (answered (Err r)) plus0
 
 unfoldable pub elevation_answer : Lent → List ℕ → ℕ → Answer
 elevation_answer b r g = lent_rows b then number_rows r g then row40 b (point_in r g) g
@@ -80,6 +89,10 @@ pub record Peaked : Type 0 where
 
 abbrev pub peaked : Answer → Mark → Peaked
 peaked a k = record { answer = a; mark = k }
+
+abbrev pub peaked_by : Result Mark Refusal → Peaked
+peaked_by (Ok k) = peaked accepted k
+peaked_by (Err r) = peaked (answered (Err r)) (mark 0 plus0 0)
 
 unfoldable pub peak_of : List ℕ → ℕ → Peaked
 peak_of r g = let a = number_rows r g in peaked a (if_accepted a (mark_in r g) (mark 0 plus0 0))
