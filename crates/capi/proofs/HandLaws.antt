@@ -3,8 +3,7 @@ use Prim.Native.Nat.{ℕ}
 use mathlib.Core.Path.{◌≡◌, ap, ◌∙◌}
 use mathlib.Core.List.{List}
 use lib.Ieee.{Float}
-use Rattle.surge.specs.declared.Reply.{Reply}
-use Rattle.surge.specs.Lent.{After, after}
+use Rattle.surge.specs.Lent.{Reply, After, after}
 use Rattle.surge.specs.Step.{StepOut, step_out}
 use Rattle.surge.specs.StepAll.{list_out}
 use Rattle.passes.specs.InTurn.{Turns}

@@ -4,8 +4,8 @@ use Rattle.std.specs.Prelude.{ℕ, not, eqb, Float}
 use Rattle.rows.specs.declared.Answer.{Answer}
 use Rattle.quantities.specs.declared.Parameters.{Parameters}
 use Rattle.surge.specs.declared.Clock.{Clock}
-use Rattle.surge.specs.declared.Reply.{Reply}
-use Rattle.surge.specs.declared.ListReply.{ListReply}
+use Rattle.surge.specs.Lent.{Reply}
+use Rattle.surge.specs.StepAll.{ListReply}
 
 -- The setting crosses as a byte: 0 is off, every other value on.
 abbrev pub parameters : Float → Float → Float → Float → ℕ → Parameters

@@ -4,8 +4,9 @@
 #![tactic(auto)]
 
 ghost use Rattle.std.specs.Prelude.{◌≡◌};
+ghost use Rattle.rows.specs.Refusals.{answered};
 ghost use Rattle.mesh.specs.Lent.{mesh};
-ghost use Rattle.surge.specs.Lent.{run, after};
+ghost use Rattle.surge.specs.Lent.{run, replied, after};
 ghost use Rattle.surge.specs.Open.{open_of};
 ghost use Rattle.surge.specs.Step.{step_out, step_of};
 ghost use Rattle.surge.specs.StepAll.{list_out, step_all_of};
@@ -16,8 +17,10 @@ ghost use Rattle.forcings.specs.Forcings.{taken, taken_of};
 ghost use Rattle.grids.specs.Grid.{grid, read_out, read_of};
 ghost use Rattle.capi.specs.Numbers.{parameters, clock, answer, reply, list_reply};
 
+use mesh::Mesh;
 use quantities::Parameters;
-use surge::{Clock, Reply};
+use rows::{Answer, Asked, Refusal};
+use surge::Clock;
 
 // The setting of advection crosses as a byte: 0 is off, every other value on.
 fn parameters(dt: f64, tau: f64, k: f64, f: f64, advection: u8) -> Parameters
@@ -32,14 +35,32 @@ fn parameters(dt: f64, tau: f64, k: f64, f: f64, advection: u8) -> Parameters
     }
 }
 
-// Hands back what a call on a run replies: all but the number through pointers.
-fn hand_back(place: &mut usize, value: &mut f64, step: &mut u32, r: Reply) -> u32
-    ensures { reply (answer result place.new value.new) (clock step.new) ≡ r }
+// Hands back what was asked: all but the number through pointers.
+fn hand_back(place: &mut usize, value: &mut f64, asked: Asked) -> u32
+    ensures { answer result place.new value.new ≡ answered asked }
 {
-    *place = r.answer.place;
-    *value = r.answer.value;
-    *step = r.clock.step;
-    r.answer.number
+    let answer = Answer::from(asked);
+    *place = answer.place;
+    *value = answer.value;
+    answer.number
+}
+
+// And what a call on a run gives: a refusal leaves the step number.
+fn hand_clock(
+    place: &mut usize,
+    value: &mut f64,
+    step: &mut u32,
+    called: Result<Clock, Refusal>,
+) -> u32
+    ensures { reply (answer result place.new value.new) (clock step.new) ≡ replied (clock step.old) called }
+{
+    match called {
+        Ok(clock) => {
+            *step = clock.step;
+            hand_back(place, value, Ok(()))
+        }
+        Err(refusal) => hand_back(place, value, Err(refusal)),
+    }
 }
 
 // Opens a mesh. The clock only comes back: it is the cold one, refused or not.
@@ -63,8 +84,9 @@ pub extern "C" fn surge_open(
     ensures { after (reply (answer result place.new value.new) (clock step.new)) state.new ≡ open_of (mesh x.now y.now tri.now h.now kind.now) (parameters dt tau k f advection) state.old }
 {
     let p = parameters(dt, tau, k, f, advection);
-    let opened = surge::open(state, x, y, tri, h, kind, p);
-    hand_back(place, value, step, opened)
+    let m = Mesh { x, y, tri, h, kind };
+    *step = 0;
+    hand_clock(place, value, step, surge::open(state, &m, p))
 }
 
 // Steps. The clock goes in and comes back.
@@ -92,9 +114,10 @@ pub extern "C" fn surge_step(
     ensures { step_out (reply (answer result place.new value.new) (clock step.new)) next.new work.new sums.new ≡ step_of (mesh x.now y.now tri.now h.now kind.now) (parameters dt tau k f advection) (run state.now (clock step.old)) forcing.now (lent_rooms next.old work.old sums.old) }
 {
     let p = parameters(dt, tau, k, f, advection);
+    let m = Mesh { x, y, tri, h, kind };
     let c = Clock { step: *step };
-    let stepped = surge::step(next, work, sums, state, forcing, x, y, tri, h, kind, p, c);
-    hand_back(place, value, step, stepped)
+    let stepped = surge::step(next, work, sums, state, forcing, &m, p, c);
+    hand_clock(place, value, step, stepped)
 }
 
 // Steps through a list. The clock goes in and comes back, and the count of accepted steps comes back.
@@ -123,11 +146,12 @@ pub extern "C" fn surge_step_all(
     ensures { list_out (list_reply (reply (answer result place.new value.new) (clock step.new)) accepted.new) next.new work.new sums.new ≡ step_all_of (mesh x.now y.now tri.now h.now kind.now) (parameters dt tau k f advection) (run state.now (clock step.old)) forcings.now (lent_rooms next.old work.old sums.old) }
 {
     let p = parameters(dt, tau, k, f, advection);
+    let m = Mesh { x, y, tri, h, kind };
     let c = Clock { step: *step };
-    let stepped = surge::step_all(next, work, sums, state, forcings, x, y, tri, h, kind, p, c);
+    let stepped = surge::step_all(next, work, sums, state, forcings, &m, p, c);
     *accepted = stepped.accepted;
-    let reply = stepped.reply;
-    hand_back(place, value, step, reply)
+    *step = stepped.clock.step;
+    hand_back(place, value, stepped.asked)
 }
 
 // Saves. The clock only goes in; the place of an accepted answer is the bytes written.
@@ -152,11 +176,16 @@ pub extern "C" fn surge_save(
     ensures { save_out (answer result place.new value.new) text.new ≡ save_of (mesh x.now y.now tri.now h.now kind.now) (parameters dt tau k f advection) state.now (clock step) text.old }
 {
     let p = parameters(dt, tau, k, f, advection);
+    let m = Mesh { x, y, tri, h, kind };
     let c = Clock { step };
-    let saved = saves::save(text, state, x, y, tri, h, kind, p, c);
-    *place = saved.place;
-    *value = saved.value;
-    saved.number
+    match saves::save(text, state, &m, p, c) {
+        Ok(bytes) => {
+            let number = hand_back(place, value, Ok(()));
+            *place = bytes;
+            number
+        }
+        Err(refusal) => hand_back(place, value, Err(refusal)),
+    }
 }
 
 // Loads. The clock goes in, since a refusal leaves it as found, and comes back.
@@ -181,9 +210,8 @@ pub extern "C" fn surge_load(
     ensures { after (reply (answer result place.new value.new) (clock step.new)) state.new ≡ load_of (mesh x.now y.now tri.now h.now kind.now) (parameters dt tau k f advection) text.now state.old (clock step.old) }
 {
     let p = parameters(dt, tau, k, f, advection);
-    let c = Clock { step: *step };
-    let loaded = loads::load(state, text, x, y, tri, h, kind, p, c);
-    hand_back(place, value, step, loaded)
+    let m = Mesh { x, y, tri, h, kind };
+    hand_clock(place, value, step, loads::load(state, text, &m, p))
 }
 
 // Reads a forcing into a room. The room is written only where the reading is accepted.
@@ -197,10 +225,11 @@ pub extern "C" fn surge_read_forcing(
 ) -> u32
     ensures { taken (answer result place.new value.new) forcing.new ≡ taken_of forcing.old text.now expected }
 {
-    let taken = forcings::read_forcing(forcing, text, expected);
-    *place = taken.place;
-    *value = taken.value;
-    taken.number
+    hand_back(
+        place,
+        value,
+        forcings::read_forcing(forcing, text, expected),
+    )
 }
 
 // Reads a grid file into the rooms of a mesh.
@@ -216,8 +245,5 @@ pub extern "C" fn surge_read_grid(
 ) -> u32
     ensures { read_out (answer result place.new value.new) (grid x.new y.new h.new tri.new) ≡ read_of (grid x.old y.old h.old tri.old) text.now }
 {
-    let read = grids::read_grid(x, y, h, tri, text);
-    *place = read.place;
-    *value = read.value;
-    read.number
+    hand_back(place, value, grids::read_grid(x, y, h, tri, text))
 }

@@ -1,7 +1,5 @@
 use Rattle.capi.proofs.HandLaws.{after_handed}
-use borrow.Author.Rules.{rules}
 use Rattle.capi.proofs.surge_open.Goals as goal
 
 pub returns : goal.returns
-returns c =
-    after_handed _ _ c.hand_back.ensures _ _ (rw (c.open-opened.ensures, c.parameters-p.ensures))
+returns c = after_handed _ _ c.hand_clock.ensures _ _ (rw (c.open.ensures, c.parameters-p.ensures))

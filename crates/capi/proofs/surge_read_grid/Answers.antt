@@ -1,5 +1,9 @@
-use borrow.Author.Rules.{rules}
+use mathlib.Core.Path.{ap, ◌∙◌}
+use Rattle.rows.specs.declared.Answer.{Answer}
+use Rattle.grids.specs.Grid.{grid, read_out}
 use Rattle.capi.proofs.surge_read_grid.Goals as goal
 
 pub returns : goal.returns
-returns c = c.read_grid-read.ensures
+returns c =
+    let new = c.read_grid.new in
+    ap (λ (a : Answer). read_out a (grid new.x new.y new.h new.tri)) c.hand_back.ensures ∙ c.read_grid.ensures
