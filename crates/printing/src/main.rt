@@ -11,17 +11,17 @@ ghost use Rattle.forcelog.specs.Private.{Savable};
 
 use forcelog::Log;
 use frames::reading;
-use rows::Answer;
+use rows::{Answer, Refusal};
 use std::io;
 use std::io::Read;
 
 // The save at the end: it is never refused, so the room is full.
-fn save_text(log: Log) -> [u8; 442]
-    requires { Savable log }
-    ensures { result ≡ ending log }
+fn save_text(log: &Log) -> [u8; 442]
+    requires { Savable log.now }
+    ensures { result ≡ ending log.now }
 {
     let mut text = [0u8; 442];
-    forcelog::end(&mut text, log);
+    forcelog::end(&mut text, log).unwrap();
     text
 }
 
@@ -84,8 +84,8 @@ fn print(rt: &(impl Print + Eprint), text: &[u8]) -> io::Result<()> {
     Ok(())
 }
 
-fn print_refusal(rt: &(impl Print + Eprint), answer: Answer) -> io::Result<()> {
-    let words = refusals::refusal(answer);
+fn print_refusal(rt: &(impl Print + Eprint), refusal: Refusal) -> io::Result<()> {
+    let words = refusals::refusal(Answer::from(Err(refusal)));
     let bytes = words.bytes;
     let len = words.len;
     print(rt, &bytes[..len])
@@ -102,14 +102,11 @@ fn main(rt: HostRuntime) -> io::Result<()> {
             Err(error) => return say_unread(&rt, error),
         };
         if n == 0 {
-            let save = save_text(log);
-            return print(&rt, &save);
+            return print(&rt, &save_text(&log));
         }
-        let took = forcelog::take(&text[..n], log);
-        let answer = took.answer;
-        if answer.number != 0 {
-            return print_refusal(&rt, answer);
-        }
-        log = took.log;
+        log = match forcelog::take(&text[..n], &log) {
+            Ok(next) => next,
+            Err(refusal) => return print_refusal(&rt, refusal),
+        };
     }
 }

@@ -7,9 +7,9 @@ loop-n-init c = rw c.cold-log.ensures cold_savable
 
 pub loop-n-smaller : goal.loop-n-smaller
 loop-n-smaller c =
-    let t = taken_on _ _ _ c.loop-n.invariant c.take-took.ensures c.if-answer-ne0.false in
+    let t = taken_on _ _ c.in-Ok-take.next c.loop-n.invariant c.in-Ok-take.ensures in
     omega (arith, t.0, t.1.steps)
 
 pub loop-n-preserved : goal.loop-n-preserved
 loop-n-preserved c =
-    (taken_on _ _ _ c.loop-n.invariant c.take-took.ensures c.if-answer-ne0.false).1
+    (taken_on _ _ c.in-Ok-take.next c.loop-n.invariant c.in-Ok-take.ensures).1

@@ -1,7 +1,6 @@
 use mathlib.Core.Path.{sym}
 use lib.Seq.{length-take-le}
 use Rattle.refusals.proofs.WordLaws.{words_fit}
-use borrow.Author.Rules.{rules}
 use Rattle.printing.proofs.print_refusal.Goals as goal
 
 pub slice_bounds-bytes-end : goal.slice_bounds-bytes-end
