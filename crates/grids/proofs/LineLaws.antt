@@ -3,7 +3,7 @@ use Rattle.std.proofs.Common.{◌≡◌, ℕ, suc, ◌+◌, ◌<◌, ◌≤◌, 
 use borrow.Author.Tests.{eqb-false}
 use Rattle.rows.proofs.ScanLaws.{both_left, both_right}
 use Rattle.grids.specs.Text.{pieces_of, filled, fields_of, exactly}
-use Rattle.grids.specs.Numbers.{number_of, is_number, starts_with, is_minus, unsigned, is_whole, before_first, after_first, is_depth, is_short, size_of}
+use Rattle.grids.specs.Numbers.{number_of, starts_with, is_minus, unsigned, before_first, after_first, is_depth, is_short, size_of}
 use Rattle.grids.specs.Grid.{count_tests, node_tests, is_three, triangle_tests}
 use Rattle.grids.specs.Private.{unspaced, is_end, is_line_end, most, capped, GapSeen, present, first, its, Seen, NumberSeen, WholeSeen, DepthSeen, LineSeen, NoLine, CountsSeen, NodeSeen, TriangleSeen}
 use Rattle.grids.specs.declared.scanning.Gap.{Gap}
@@ -179,32 +179,38 @@ module _ {t r₁ r₂ r₃ : List ℕ} {n x y : ℕ} {n-fine x-fine x_minus y-fi
       h_small = h-seen.small;
     }
 
-module _ {t r₁ r₂ r₃ r₄ r₅ : List ℕ} {n k p q r : ℕ} {n-fine k-fine p-fine q-fine r-fine : Bool} (n_seen : NumberSeen t n-fine n r₁) (n-is : n-fine ≡ true)
-    (k_seen : NumberSeen r₁ k-fine k r₂) (k-is : (k-fine && eqb k 3) ≡ true) (p-seen : NumberSeen r₂ p-fine p r₃) (q-seen : NumberSeen r₃ q-fine q r₄)
-    (r-seen : NumberSeen r₄ r-fine r r₅) {ends : Bool} {next : List ℕ} (end : LineSeen [] r₅ ends next) where
-  abbrev corners_fine : Bool
-  corners_fine = p-fine && (q-fine && (r-fine && ends))
-
-  triangle_fields : LineSeen triangle_tests t corners_fine next
-  triangle_fields = line_on n_seen.seen n-is (line_on (three_seen k_seen) k-is (line_more p-seen.seen (line_more q-seen.seen (line_more r-seen.seen end))))
-
-  pub triangle_none : corners_fine ≡ false → NoLine triangle_tests t
-  triangle_none off = sym off ∙ triangle_fields.holds
+module _ {t r₁ r₂ r₃ r₄ : List ℕ} {n k p q : ℕ} {n-fine k-fine p-fine q-fine : Bool} (n_seen : NumberSeen t n-fine n r₁) (n-is : n-fine ≡ true)
+    (k_seen : NumberSeen r₁ k-fine k r₂) (k-is : (k-fine && eqb k 3) ≡ true) (p-seen : NumberSeen r₂ p-fine p r₃) (q-seen : NumberSeen r₃ q-fine q r₄) where
+  pub corners_none : (p-fine && q-fine) ≡ false → NoLine triangle_tests t
+  corners_none off =
+      later n_seen.seen n-is _ (later (three_seen k_seen) k-is _ (not_more p-seen.seen off _ (λ f. not_here q-seen.seen f _)))
 
   -- the field j places after the third
   triangle_its : (j : ℕ) → its r₂ j ≡ its t (suc (suc j))
   triangle_its j = sym (its_more n_seen.seen n-is (suc j) ∙ its_more (three_seen k_seen) k-is j)
 
-  pub triangle_line_lem : corners_fine ≡ true → (at : ℕ) → TriangleSeen t (record { first = p; number = n; second = q; next = at; third = r }) next
-  triangle_line_lem f at =
-      let p_is = both_left p-fine (q-fine && (r-fine && ends)) f in
-      let q_r = both_right p-fine (q-fine && (r-fine && ends)) f in
-      let q_is = both_left q-fine (r-fine && ends) q_r in
-      let r_is = both_left r-fine ends (both_right q-fine (r-fine && ends) q_r) in
-      record {
-        seen = rw f at triangle_fields;
-        number = n_seen.value_is n-is;
-        first = p-seen.value_is p_is ∙ ap numbered (triangle_its 0);
-        second = q-seen.value_is q_is ∙ ap numbered (sym (its_more p-seen.seen p_is 0) ∙ triangle_its 1);
-        third = r-seen.value_is r_is ∙ ap numbered (sym (its_more p-seen.seen p_is 1 ∙ its_more q-seen.seen q_is 0) ∙ triangle_its 2);
-      }
+  module _ (both : (p-fine && q-fine) ≡ true) {r : ℕ} {r-fine : Bool} {r₅ : List ℕ} (r-seen : NumberSeen r₄ r-fine r r₅) {ends : Bool} {next : List ℕ}
+      (end : LineSeen [] r₅ ends next) where
+    p_is : p-fine ≡ true
+    p_is = both_left p-fine q-fine both
+
+    q_is : q-fine ≡ true
+    q_is = both_right p-fine q-fine both
+
+    triangle_fields : LineSeen triangle_tests t (r-fine && ends) next
+    triangle_fields =
+        line_on n_seen.seen n-is (line_on (three_seen k_seen) k-is (line_on p-seen.seen p_is (line_on q-seen.seen q_is (line_more r-seen.seen end))))
+
+    pub triangle_none : (r-fine && ends) ≡ false → NoLine triangle_tests t
+    triangle_none off = sym off ∙ triangle_fields.holds
+
+    pub triangle_line_lem : (r-fine && ends) ≡ true → (at : ℕ) → TriangleSeen t (record { first = p; number = n; second = q; next = at; third = r }) next
+    triangle_line_lem f at = record {
+      seen = rw f at triangle_fields;
+      number = n_seen.value_is n-is;
+      first = p-seen.value_is p_is ∙ ap numbered (triangle_its 0);
+      second = q-seen.value_is q_is ∙ ap numbered (sym (its_more p-seen.seen p_is 0) ∙ triangle_its 1);
+      third =
+          r-seen.value_is (both_left r-fine ends f)
+          ∙ ap numbered (sym (its_more p-seen.seen p_is 1 ∙ its_more q-seen.seen q_is 0) ∙ triangle_its 2);
+    }

@@ -1,7 +1,7 @@
 // The lines of a grid text, each read from its first byte on: what it holds, where it holds what it is to hold, and the place `next` where the next line
 // starts. A line whose first fields are not what they are to be is left there. `skip` and `digits_at` are called here and not by a function for one field: that
 // would be too long for the compiler to put it in the place of each of its calls, and what it returns would go through memory.
-ghost use Rattle.std.specs.Prelude.{◌≡◌, false, drop, MatchOption};
+ghost use Rattle.std.specs.Prelude.{drop, MatchOption};
 ghost use Rattle.grids.specs.Grid.{count_tests, node_tests, triangle_tests};
 ghost use Rattle.grids.specs.Private.{NoLine, CountsSeen, NodeSeen, TriangleSeen};
 
@@ -114,11 +114,13 @@ pub(crate) fn triangle_at(text: &[u8], from: usize) -> Option<TriangleLine>
     let first = scanning::digits_at(text, c.end);
     let d = scanning::skip(text, first.end);
     let second = scanning::digits_at(text, d.end);
+    if !(fields::is_number(c.end, first) & fields::is_number(d.end, second)) {
+        return None;
+    }
     let e = scanning::skip(text, second.end);
     let third = scanning::digits_at(text, e.end);
     let end = scanning::skip_rest(text, third.end);
-    let last = fields::is_number(e.end, third) & (end.stop == 10);
-    if !(fields::is_number(c.end, first) & (fields::is_number(d.end, second) & last)) {
+    if !(fields::is_number(e.end, third) & (end.stop == 10)) {
         return None;
     }
     Some(TriangleLine {
