@@ -114,6 +114,7 @@ pub(crate) fn triangle_at(text: &[u8], from: usize) -> Option<TriangleLine>
     let first = scanning::digits_at(text, c.end);
     let d = scanning::skip(text, first.end);
     let second = scanning::digits_at(text, d.end);
+    // Tested before the third is read: all of them at the end would be more values than there are registers.
     if !(fields::is_number(c.end, first) & fields::is_number(d.end, second)) {
         return None;
     }
