@@ -1,10 +1,13 @@
 // Example 13 of document 01, with its wind at every node: two steps on mesh T from a cold start. Each number of the state after each step is written as
 // its binary64 pattern, one a line, and last the clock's step number. The file `stdout` beside src/ holds what the independent second program gives. Standard
-// error says of a write that fails why it did.
+// error says of a write that fails why it did, and of a step that is refused which row refuses it.
 #![tactic(auto)]
 
+use mesh::Mesh;
 use quantities::Parameters;
+use rows::Refusal;
 use std::io;
+use surge::Clock;
 
 fn print_number(rt: &impl Print, number: f64) -> io::Result<()> {
     println!(rt; "{:016x}", patterns::pattern_of(number))
@@ -27,13 +30,15 @@ fn print_run(rt: &impl Print, first: &[f64], second: &[f64], step: u32) -> io::R
     print_step(rt, step)
 }
 
-// The error that it ends with is of standard error, where a failed write is told.
-fn main(rt: HostRuntime) -> io::Result<()> {
-    let x = [0i32, 100, 0];
-    let y = [0i32, 0, 100];
-    let tri = [0u16, 1, 2];
-    let h = [8.0, 8.0, 8.0];
-    let kind = [0u8; 3];
+// The two steps, the second with no wind: `next` holds the state after the first, and `state` that after the second.
+fn two_steps(state: &mut [f64], next: &mut [f64]) -> Result<Clock, Refusal> {
+    let m = Mesh {
+        x: &[0, 100, 0],
+        y: &[0, 0, 100],
+        tri: &[0, 1, 2],
+        h: &[8.0, 8.0, 8.0],
+        kind: &[0, 0, 0],
+    };
     let p = Parameters {
         dt: 1.0,
         tau: 0.0,
@@ -41,32 +46,29 @@ fn main(rt: HostRuntime) -> io::Result<()> {
         f: 0.0,
         advection: false,
     };
-    let mut state = [0.0; 18];
-    let mut next = [0.0; 18];
+    let wind = [0.0, 0.015625, 0.015625, 0.015625, 0.0, 0.0, 0.0];
+    let calm = [0.0; 7];
     let mut work = [0.0; 15];
     let mut sums = [0u64; 3];
-    let opened = surge::open(&mut state, &x, &y, &tri, &h, &kind, p);
-    let wind = [0.0, 0.015625, 0.015625, 0.015625, 0.0, 0.0, 0.0];
-    let one = surge::step(
-        &mut next,
-        &mut work,
-        &mut sums,
-        &state,
-        &wind,
-        &x,
-        &y,
-        &tri,
-        &h,
-        &kind,
-        p,
-        opened.clock,
-    );
-    let calm = [0.0; 7];
-    let two = surge::step(
-        &mut state, &mut work, &mut sums, &next, &calm, &x, &y, &tri, &h, &kind, p, one.clock,
-    );
-    if let Err(error) = print_run(&rt, &next, &state, two.clock.step) {
-        eprintln!(rt; "example13: cannot write standard output: {error}")?;
+    let cold = surge::open(state, &m, p)?;
+    let first = surge::step(next, &mut work, &mut sums, state, &wind, &m, p, cold)?;
+    surge::step(state, &mut work, &mut sums, next, &calm, &m, p, first)
+}
+
+// The error that it ends with is of standard error, where a refusal and a failed write are told.
+fn main(rt: HostRuntime) -> io::Result<()> {
+    let mut state = [0.0; 18];
+    let mut next = [0.0; 18];
+    match two_steps(&mut state, &mut next) {
+        Ok(clock) => {
+            if let Err(error) = print_run(&rt, &next, &state, clock.step) {
+                eprintln!(rt; "example13: cannot write standard output: {error}")?;
+            }
+            Ok(())
+        }
+        Err(refusal) => {
+            let row = refusal.row.number();
+            eprintln!(rt; "example13: row {row} refuses at {}", refusal.place)
+        }
     }
-    Ok(())
 }
