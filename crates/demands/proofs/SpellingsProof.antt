@@ -38,7 +38,7 @@ read_alike room s t expected = alike (λ (u : List ℕ). taken_of room u expecte
 
 pub either_case : EitherCase
 either_case = record {
-  loads_load = λ κs a g x v met s same. met ∙ sym (load_alike _ _ _ _ _ _ same);
+  loads_load = λ κs a g x v met k s same. met k ∙ sym (load_alike _ _ _ _ _ _ same);
   forcings_read_forcing = λ κs a g x v met s same. met ∙ sym (read_alike _ _ _ _ same);
   capi_surge_load = λ κs a g x v met s same. met ∙ sym (load_alike _ _ _ _ _ _ same);
   capi_surge_read_forcing = λ κs a g x v met s same. met ∙ sym (read_alike _ _ _ _ same);

@@ -7,14 +7,15 @@ use denote.Triple.Clauses.{Ended, Clauses, Lasts, at_exit}
 use borrow.Fn.World.{w₀}
 use Rattle.quantities.specs.declared.Parameters.{Parameters}
 use Rattle.surge.specs.declared.Clock.{Clock}
-use Rattle.mesh.specs.Lent.{Mesh, mesh}
-use Rattle.surge.specs.Lent.{Run, run, After, after}
+use Rattle.rows.specs.Refusals.{answered}
+use Rattle.mesh.specs.Lent.{Mesh, mesh, mesh_of}
+use Rattle.surge.specs.Lent.{Run, run, cold_clock, replied, After, after}
 use Rattle.surge.specs.Step.{StepOut, step_out}
-use Rattle.surge.specs.StepAll.{list_out}
+use Rattle.surge.specs.StepAll.{list_replied, list_out}
 use Rattle.passes.specs.InTurn.{Turns}
 use Rattle.passes.specs.Settle.{Rooms, lent_rooms}
 use Rattle.forcings.specs.Forcings.{Taken, taken}
-use Rattle.saves.specs.Save.{SaveOut, save_out}
+use Rattle.saves.specs.Save.{SaveOut, saved, save_out}
 use Rattle.capi.specs.Numbers as C
 use Rattle.demands.specs.Ensured.{Ensures, told, says, 𝓛₀, mem₀, run₀}
 use Rattle.surge.specs.contracts.open as open_contract
@@ -40,50 +41,46 @@ Keeps T c r Says =
 
 -- ---- the product's calls
 
--- open(state, x, y, tri, h, kind, p): of the mesh, the parameters, the state as it was lent, and what is left
+-- open(state, m, p): of the mesh, the parameters, the state as it was lent, and what is left
 abbrev pub Opening : (Mesh → Parameters → List Float → After → Type 0) → Type 0
 Opening Says =
     Keeps open_contract.ended (open_contract.clauses 𝓛₀ mem₀ run₀) (λ κs a g x s. says _)
-    (λ κs (state, (x, (y, (tri, (h, (kind, (p, _))))))) reply left.
-    Says (mesh x.now y.now tri.now h.now kind.now) p state.now (after reply left.0))
+    (λ κs (state, (m, (p, _))) result left. Says (mesh_of m.now) p state.now (after (replied cold_clock result) left.0))
 
--- step(next, work, sums, state, f, x, y, tri, h, kind, p, clock): of the mesh, the parameters, the run, the forcing, the rooms as they were lent, and
--- what is left
+-- step(next, work, sums, state, f, m, p, clock): of the mesh, the parameters, the run, the forcing, the rooms as they were lent, and what is left
 abbrev pub Stepping : (Mesh → Parameters → Run → List Float → Rooms → StepOut → Type 0) → Type 0
 Stepping Says =
     Keeps step_contract.ended (step_contract.clauses 𝓛₀ mem₀ run₀) (λ κs a g x s. says _)
-    (λ κs (next, (work, (sums, (state, (f, (x, (y, (tri, (h, (kind, (p, (clock, _)))))))))))) reply left.
-    Says (mesh x.now y.now tri.now h.now kind.now) p (run state.now clock) f.now (lent_rooms next.now work.now sums.now)
-    (step_out reply left.0 left.1.0 left.1.1.0))
+    (λ κs (next, (work, (sums, (state, (f, (m, (p, (clock, _)))))))) result left.
+    Says (mesh_of m.now) p (run state.now clock) f.now (lent_rooms next.now work.now sums.now)
+    (step_out (replied clock result) left.0 left.1.0 left.1.1.0))
 
--- step_all(next, work, sums, state, list, x, y, tri, h, kind, p, clock): of the mesh, the parameters, the run, the list, the rooms as they were lent, and
--- what is left
+-- step_all(next, work, sums, state, list, m, p, clock): of the mesh, the parameters, the run, the list, the rooms as they were lent, and what is left
 abbrev pub SteppingAll : (Mesh → Parameters → Run → List Float → Rooms → Turns → Type 0) → Type 0
 SteppingAll Says =
     Keeps step_all_contract.ended (step_all_contract.clauses 𝓛₀ mem₀ run₀) (λ κs a g x s. says _)
-    (λ κs (next, (work, (sums, (state, (list, (x, (y, (tri, (h, (kind, (p, (clock, _)))))))))))) reply left.
-    Says (mesh x.now y.now tri.now h.now kind.now) p (run state.now clock) list.now (lent_rooms next.now work.now sums.now)
-    (list_out reply left.0 left.1.0 left.1.1.0))
+    (λ κs (next, (work, (sums, (state, (list, (m, (p, (clock, _)))))))) reply left.
+    Says (mesh_of m.now) p (run state.now clock) list.now (lent_rooms next.now work.now sums.now)
+    (list_out (list_replied reply) left.0 left.1.0 left.1.1.0))
 
--- save(text, state, x, y, tri, h, kind, p, clock): of the mesh, the parameters, the state, the clock, the text room as it was lent, and what is left
+-- save(text, state, m, p, clock): of the mesh, the parameters, the state, the clock, the text room as it was lent, and what is left
 abbrev pub Saving : (Mesh → Parameters → List Float → Clock → List ℕ → SaveOut → Type 0) → Type 0
 Saving Says =
     Keeps save_contract.ended (save_contract.clauses 𝓛₀ mem₀ run₀) (λ κs a g x s. says _)
-    (λ κs (text, (state, (x, (y, (tri, (h, (kind, (p, (clock, _))))))))) answer left.
-    Says (mesh x.now y.now tri.now h.now kind.now) p state.now clock text.now (save_out answer left.0))
+    (λ κs (text, (state, (m, (p, (clock, _))))) result left. Says (mesh_of m.now) p state.now clock text.now (save_out (saved result) left.0))
 
--- load(state, text, x, y, tri, h, kind, p, clock): of the mesh, the parameters, the text, the state and the clock as they were, and what is left
+-- load(state, text, m, p): of the mesh, the parameters, the text, the state as it was and whatever clock is held, and what is left
 abbrev pub Loading : (Mesh → Parameters → List ℕ → List Float → Clock → After → Type 0) → Type 0
 Loading Says =
     Keeps load_contract.ended (load_contract.clauses 𝓛₀ mem₀ run₀) (λ κs a g x s. says _)
-    (λ κs (state, (text, (x, (y, (tri, (h, (kind, (p, (clock, _))))))))) reply left.
-    Says (mesh x.now y.now tri.now h.now kind.now) p text.now state.now clock (after reply left.0))
+    (λ κs (state, (text, (m, (p, _)))) result left.
+    (clock : Clock) → Says (mesh_of m.now) p text.now state.now clock (after (replied clock result) left.0))
 
 -- read_forcing(room, text, expected): of the room as it was lent, the text, the sequence number that is due, and what is left
 abbrev pub Reading : (List Float → List ℕ → ℕ → Taken → Type 0) → Type 0
 Reading Says =
     Keeps read_forcing_contract.ended (read_forcing_contract.clauses 𝓛₀ mem₀ run₀) (λ κs a g x s. says _)
-    (λ κs (room, (text, (expected, _))) answer left. Says room.now text.now expected (taken answer left.0))
+    (λ κs (room, (text, (expected, _))) result left. Says room.now text.now expected (taken (answered result) left.0))
 
 -- ---- the calls for C: the number is the result, and all else that comes back goes through pointers
 
