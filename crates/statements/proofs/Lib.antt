@@ -1,3 +1,5 @@
+pub mod ResultLaws
+pub mod KindLaws
 pub mod Outcomes
 pub mod PrintingProof
 pub mod GridsProof

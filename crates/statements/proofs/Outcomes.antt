@@ -1,21 +1,26 @@
 -- Each public function's own contract has at most one outcome, and the calls ask nothing of their caller.
 use mathlib.Core.Path.{◌≡◌, refl, sym, ap, ◌∙◌}
+use Rattle.rows.proofs.RefusalLaws.{answered_same}
 use Rattle.editions.proofs.LineLaws.{lines_apart}
+use Rattle.statements.proofs.KindLaws.{kind_same}
+use Rattle.statements.proofs.ResultLaws.{survey_same, found_same, given_same, replied_same, saved_same, took_same}
 use Rattle.lines.specs.Building.{Put, put_out}
-use Rattle.surge.specs.Lent.{After, after}
+use Rattle.rows.specs.Refusals.{answered}
+use Rattle.surge.specs.Lent.{cold_clock, replied, After, after}
 use Rattle.passes.specs.Settle.{Settled, settled}
 use Rattle.passes.specs.InTurn.{Turns}
-use Rattle.passes.specs.SettleAll.{turns}
+use Rattle.passes.specs.SettleAll.{progress_of, turns}
 use Rattle.surge.specs.Step.{StepOut, step_out}
-use Rattle.surge.specs.StepAll.{list_out}
-use Rattle.saves.specs.Save.{SaveOut, save_out}
+use Rattle.surge.specs.StepAll.{list_replied, list_out}
+use Rattle.saves.specs.Save.{SaveOut, saved, save_out}
 use Rattle.grids.specs.Grid.{grid, ReadOut, read_out}
 use Rattle.forcings.specs.Forcings.{Taken, taken}
-use Rattle.keeping.specs.Keeping.{AddOut, add_out, UpdateOut, update_out}
+use Rattle.looking.specs.Lent.{lent_of}
+use Rattle.keeping.specs.Keeping.{given_of, AddOut, add_out, UpdateOut, update_out}
 use Rattle.gauges.specs.Calls as G
 use Rattle.gauges.specs.Calls.{given, mark, Located, located, Measured, measured, Peaked, peaked}
 use Rattle.capi.specs.Numbers.{clock, answer, reply, list_reply}
-use Rattle.statements.specs.Determined.{EachDetermined, EachCallAsksNothing}
+use Rattle.statements.specs.Determined.{EachDetermined, EachDeterminedByItsClosure, EachCallAsksNothing}
 
 -- the one law: two values that equal a third are equal
 same : {A : Type 0} {x y z : A} → x ≡ z → y ≡ z → x ≡ y
@@ -23,10 +28,10 @@ same p q = p ∙ sym q
 
 pub each_determined : EachDetermined
 each_determined = record {
-  rows_accept_determined = λ κs a g x y v w p q. (same p q, refl);
-  rows_refuse_determined = λ κs a g x y v w p q. (same p q, refl);
-  rows_tested_determined = λ κs a g x y v w p q. (same p q, refl);
-  rows_first_determined = λ κs a g x y v w p q. (same p q, refl);
+  rows_row_number_determined = λ κs a g x y v w p q. (same p q, refl);
+  rows_refuse_determined = λ κs a g x y v w p q. (answered_same x y (same p q), refl);
+  rows_tested_determined = λ κs a g x y v w p q. (answered_same x y (same p q), refl);
+  rows_first_determined = λ κs a g x y v w p q. (answered_same x y (same p q), refl);
   rows_in_range_determined = λ κs a g x y v w p q. (same p q, refl);
   lists_slices_is_runs_determined = λ κs a g x y v w p q. (same p q, refl);
   lists_slices_clear_determined = λ κs a g x y v w p q. (refl, λ i. (same p q i, tt));
@@ -38,27 +43,29 @@ each_determined = record {
   elevation_shares_determined = λ κs a g x y v w p q. (same p q, refl);
   elevation_rise_of_determined = λ κs a g x y v w p q. (same p q, refl);
   velocity_flow_of_determined = λ κs a g x y v w p q. (same p q, refl);
-  outcomes_rise_row_determined = λ κs a g x y v w p q. (same p q, refl);
-  outcomes_flow_row_determined = λ κs a g x y v w p q. (same p q, refl);
+  outcomes_rise_row_determined = λ κs a g x y v w p q. (answered_same x y (same p q), refl);
+  outcomes_flow_row_determined = λ κs a g x y v w p q. (answered_same x y (same p q), refl);
   limits_is_node_determined = λ κs a g x y v w p q. (same p q, refl);
-  limits_parameters_determined = λ κs a g x y v w p q. (same p q, refl);
+  limits_parameters_determined = λ κs a g x y v w p q. (answered_same x y (same p q), refl);
   limits_in_bounds_determined = λ κs a g x y v w p q. (same p q, refl);
-  limits_may_count_determined = λ κs a g x y v w p q. (same p q, refl);
+  limits_may_count_determined = λ κs a g x y v w p q. (answered_same x y (same p q), refl);
   limits_is_calm_determined = λ κs a g x y v w p q. (same p q, refl);
-  limits_elevation_determined = λ κs a g x y v w p q. (same p q, refl);
+  limits_elevation_determined = λ κs a g x y v w p q. (answered_same x y (same p q), refl);
   patterns_pattern_of_determined = λ κs a g x y v w p q. (same p q, refl);
   patterns_float_of_determined = λ κs a g x y v w p q. (same p q, refl);
+  frames_kind_byte_determined = λ κs a g x y v w p q. (same p q, refl);
   frames_digits_tallied_determined = λ κs a g x y v w p q. (same p q, refl);
   frames_reading_value_determined = λ κs a g x y v w p q. (same p q, refl);
   frames_reading_float_at_determined = λ κs a g x y v w p q. (same p q, refl);
   frames_reading_values_determined = λ κs a g x y v w p q. (same p q, refl);
   frames_reading_part_determined = λ κs a g x y v w p q. (same p q, refl);
   frames_reading_starts_determined = λ κs a g x y v w p q. (same p q, refl);
-  faults_fault_determined = λ κs a g x y v w p q. (same p q, refl);
+  faults_fault_determined = λ κs a g x y v w p q. (answered_same x y (same p q), refl);
   editions_edition_of_determined = λ κs a g x y v w p q. (lines_apart x y (same p q), refl);
-  editions_due_determined = λ κs a g x y v w p q. (λ i. record { digits = same p.0 q.0 i; kind = same p.1 q.1 i }, refl);
+  editions_due_determined = λ κs a g x y v w p q.
+      (λ i. record { digits = same p.0 q.0 i; kind = kind_same x.kind y.kind (same p.1 q.1) i }, refl);
   editions_node_wind_determined = λ κs a g x y v w p q. (same p q, refl);
-  editions_line_row_determined = λ κs a g x y v w p q. (same p q, refl);
+  editions_line_row_determined = λ κs a g x y v w p q. (answered_same x y (same p q), refl);
   lines_line_begin_determined = λ κs a g x y v w p q. (same p q, refl);
   lines_line_append_determined = λ κs a g x y v w p q. (same p q, refl);
   lines_line_seal_determined = λ κs a g x y v w p q. (same p q, refl);
@@ -77,31 +84,31 @@ each_determined = record {
   geometry_twice_area_determined = λ κs a g x y v w p q. (same p q, refl);
   geometry_sum_of_determined = λ κs a g x y v w p q. (same p q, refl);
   mesh_reading_corners_at_determined = λ κs a g x y v w p q. (same p q, refl);
+  mesh_reading_corners_of_determined = λ κs a g x y v w p q. (same p q, refl);
   mesh_reading_places_at_determined = λ κs a g x y v w p q. (same p q, refl);
-  mesh_size_rows_determined = λ κs a g x y v w p q. (same p q, refl);
-  mesh_shape_rows_determined = λ κs a g x y v w p q. (same p q, refl);
-  legs_leg_rows_determined = λ κs a g x y v w p q. (same p q, refl);
+  mesh_size_rows_determined = λ κs a g x y v w p q. (answered_same x y (same p q), refl);
+  mesh_shape_rows_determined = λ κs a g x y v w p q. (answered_same x y (same p q), refl);
+  legs_leg_rows_determined = λ κs a g x y v w p q. (answered_same x y (same p q), refl);
   areas_twice_areas_determined = λ κs a g x y v w p q. (same p q, refl);
-  nodes_mesh_rows_determined = λ κs a g x y v w p q. (same p q, refl);
-  nodes_open_rows_determined = λ κs a g x y v w p q. (same p q, refl);
-  bounds_run_rows_determined = λ κs a g x y v w p q. (same p q, refl);
-  bounds_forced_rows_determined = λ κs a g x y v w p q. (same p q, refl);
-  bounds_weather_rows_determined = λ κs a g x y v w p q. (same p q, refl);
-  bounds_list_rows_determined = λ κs a g x y v w p q. (same p q, refl);
-  location_nothing_determined = λ κs a g x y v w p q. (same p q, refl);
-  location_survey_determined = λ κs a g x y v w p q. (same p q, refl);
-  looking_look_determined = λ κs a g x y v w p q. (same p q, refl);
-  looking_look_at_determined = λ κs a g x y v w p q. (same p q, refl);
+  nodes_mesh_rows_determined = λ κs a g x y v w p q. (answered_same x y (same p q), refl);
+  nodes_open_rows_determined = λ κs a g x y v w p q. (answered_same x y (same p q), refl);
+  bounds_run_rows_determined = λ κs a g x y v w p q. (answered_same x y (same p q), refl);
+  bounds_forced_rows_determined = λ κs a g x y v w p q. (answered_same x y (same p q), refl);
+  bounds_weather_rows_determined = λ κs a g x y v w p q. (answered_same x y (same p q), refl);
+  bounds_list_rows_determined = λ κs a g x y v w p q. (answered_same x y (same p q), refl);
+  location_survey_determined = λ κs a g x y v w p q. (survey_same x y (same p q), refl);
+  looking_look_determined = λ κs a g x y v w p q. (survey_same x y (same p q), refl);
+  looking_look_at_determined = λ κs (lent, (point, _)) g x y v w p q. (found_same (lent_of lent.now) x y (same p q), refl);
   keeping_point_at_determined = λ κs a g x y v w p q. (same p q, refl);
   keeping_mark_at_determined = λ κs a g x y v w p q. (same p q, refl);
   keeping_points_determined = λ κs a g x y v w p q. (same p q, refl);
-  keeping_number_rows_determined = λ κs a g x y v w p q. (same p q, refl);
+  keeping_number_rows_determined = λ κs a g x y v w p q. (answered_same x y (same p q), refl);
   keeping_add_determined = λ κs a g x y v w p q.
-      let e : add_out x v.0 ≡ add_out y w.0 = same p q in
-      (ap (λ (o : AddOut). o.given) e, λ i. ((e i).left, (tt, (tt, (tt, tt)))));
+      let e : add_out (given_of x) v.0 ≡ add_out (given_of y) w.0 = same p q in
+      (given_same x y (ap (λ (o : AddOut). o.given) e), λ i. ((e i).left, (tt, (tt, tt))));
   keeping_update_determined = λ κs a g x y v w p q.
-      let e : update_out x v.0 ≡ update_out y w.0 = same p q in
-      (ap (λ (o : UpdateOut). o.answer) e, λ i. ((e i).left, (tt, (tt, (tt, (tt, tt))))));
+      let e : update_out (answered x) v.0 ≡ update_out (answered y) w.0 = same p q in
+      (answered_same x y (ap (λ (o : UpdateOut). o.answer) e), λ i. ((e i).left, (tt, (tt, (tt, tt)))));
   gauges_gauge_locate_determined = λ κs a g x y v w p q.
       let e : located (G.answer x v.1.0 v.1.1.0) v.0 ≡ located (G.answer y w.1.0 w.1.1.0) w.0 = same p q in (
         ap (λ (o : Located). o.answer.number) e,
@@ -128,38 +135,40 @@ each_determined = record {
         λ i. ((e i).mark.seen, ((e i).mark.peak, ((e i).mark.step, ((e i).answer.place, ((e i).answer.value, (tt, (tt, tt))))))),
       );
   passes_settle_determined = λ κs a g x y v w p q.
-      let e : settled x v.0 v.1.0 v.1.1.0 ≡ settled y w.0 w.1.0 w.1.1.0 = same p q in
-      (ap (λ (o : Settled). o.answer) e, λ i. ((e i).rooms.next, ((e i).rooms.work, ((e i).rooms.sums, (tt, (tt, (tt, (tt, (tt, (tt, (tt, (tt, (tt, tt)))))))))))));
+      let e : settled (answered x) v.0 v.1.0 v.1.1.0 ≡ settled (answered y) w.0 w.1.0 w.1.1.0 = same p q in (
+        answered_same x y (ap (λ (o : Settled). o.answer) e),
+        λ i. ((e i).rooms.next, ((e i).rooms.work, ((e i).rooms.sums, (tt, (tt, (tt, (tt, (tt, tt)))))))),
+      );
   passes_settle_all_determined = λ κs a g x y v w p q.
-      let e : turns x v.0 v.1.0 v.1.1.0 ≡ turns y w.0 w.1.0 w.1.1.0 = same p q in (
-        λ i. record { answer = (e i).last.answer; step = (e i).last.step; accepted = (e i).accepted },
-        λ i. ((e i).last.rooms.next, ((e i).last.rooms.work, ((e i).last.rooms.sums, (tt, (tt, (tt, (tt, (tt, (tt, (tt, (tt, (tt, tt)))))))))))),
+      let e : turns (progress_of x) v.0 v.1.0 v.1.1.0 ≡ turns (progress_of y) w.0 w.1.0 w.1.1.0 = same p q in (
+        λ i. record { asked = answered_same x.asked y.asked (ap (λ (o : Turns). o.last.answer) e) i; step = (e i).last.step; accepted = (e i).accepted },
+        λ i. ((e i).last.rooms.next, ((e i).last.rooms.work, ((e i).last.rooms.sums, (tt, (tt, (tt, (tt, (tt, tt)))))))),
       );
   surge_open_determined = λ κs a g x y v w p q.
-      let e : after x v.0 ≡ after y w.0 = same p q in
-      (ap (λ (o : After). o.reply) e, λ i. ((e i).state, (tt, (tt, (tt, (tt, (tt, (tt, tt))))))));
-  surge_step_determined = λ κs a g x y v w p q.
-      let e : step_out x v.0 v.1.0 v.1.1.0 ≡ step_out y w.0 w.1.0 w.1.1.0 = same p q in (
-        ap (λ (o : StepOut). o.reply) e,
-        λ i. ((e i).rooms.next, ((e i).rooms.work, ((e i).rooms.sums, (tt, (tt, (tt, (tt, (tt, (tt, (tt, (tt, (tt, tt)))))))))))),
+      let e : after (replied cold_clock x) v.0 ≡ after (replied cold_clock y) w.0 = same p q in
+      (replied_same cold_clock x y (ap (λ (o : After). o.reply) e), λ i. ((e i).state, (tt, (tt, tt))));
+  surge_step_determined = λ κs (next, (work, (sums, (state, (f, (m, (parameters, (clock, _)))))))) g x y v w p q.
+      let e : step_out (replied clock x) v.0 v.1.0 v.1.1.0 ≡ step_out (replied clock y) w.0 w.1.0 w.1.1.0 = same p q in (
+        replied_same clock x y (ap (λ (o : StepOut). o.reply) e),
+        λ i. ((e i).rooms.next, ((e i).rooms.work, ((e i).rooms.sums, (tt, (tt, (tt, (tt, (tt, tt)))))))),
       );
   surge_step_all_determined = λ κs a g x y v w p q.
-      let e : list_out x v.0 v.1.0 v.1.1.0 ≡ list_out y w.0 w.1.0 w.1.1.0 = same p q in (
-        λ i. list_reply (reply (e i).last.answer (clock (e i).last.step)) (e i).accepted,
-        λ i. ((e i).last.rooms.next, ((e i).last.rooms.work, ((e i).last.rooms.sums, (tt, (tt, (tt, (tt, (tt, (tt, (tt, (tt, (tt, tt)))))))))))),
+      let e : list_out (list_replied x) v.0 v.1.0 v.1.1.0 ≡ list_out (list_replied y) w.0 w.1.0 w.1.1.0 = same p q in (
+        λ i. record { asked = answered_same x.asked y.asked (ap (λ (o : Turns). o.last.answer) e) i; clock = record { step = (e i).last.step }; accepted = (e i).accepted },
+        λ i. ((e i).last.rooms.next, ((e i).last.rooms.work, ((e i).last.rooms.sums, (tt, (tt, (tt, (tt, (tt, tt)))))))),
       );
   grids_read_grid_determined = λ κs a g x y v w p q.
-      let e : read_out x (grid v.0 v.1.0 v.1.1.0 v.1.1.1.0) ≡ read_out y (grid w.0 w.1.0 w.1.1.0 w.1.1.1.0) = same p q in
-      (ap (λ (o : ReadOut). o.answer) e, λ i. ((e i).rooms.x, ((e i).rooms.y, ((e i).rooms.h, ((e i).rooms.tri, (tt, tt))))));
+      let e : read_out (answered x) (grid v.0 v.1.0 v.1.1.0 v.1.1.1.0) ≡ read_out (answered y) (grid w.0 w.1.0 w.1.1.0 w.1.1.1.0) = same p q in
+      (answered_same x y (ap (λ (o : ReadOut). o.answer) e), λ i. ((e i).rooms.x, ((e i).rooms.y, ((e i).rooms.h, ((e i).rooms.tri, (tt, tt))))));
   forcings_read_forcing_determined = λ κs a g x y v w p q.
-      let e : taken x v.0 ≡ taken y w.0 = same p q in
-      (ap (λ (o : Taken). o.answer) e, λ i. ((e i).room, (tt, (tt, tt))));
+      let e : taken (answered x) v.0 ≡ taken (answered y) w.0 = same p q in
+      (answered_same x y (ap (λ (o : Taken). o.answer) e), λ i. ((e i).room, (tt, (tt, tt))));
   saves_save_determined = λ κs a g x y v w p q.
-      let e : save_out x v.0 ≡ save_out y w.0 = same p q in
-      (ap (λ (o : SaveOut). o.answer) e, λ i. ((e i).text, (tt, (tt, (tt, (tt, (tt, (tt, (tt, (tt, tt))))))))));
+      let e : save_out (saved x) v.0 ≡ save_out (saved y) w.0 = same p q in
+      (saved_same x y (ap (λ (o : SaveOut). o.answer) e), λ i. ((e i).text, (tt, (tt, (tt, (tt, tt))))));
   loads_load_determined = λ κs a g x y v w p q.
-      let e : after x v.0 ≡ after y w.0 = same p q in
-      (ap (λ (o : After). o.reply) e, λ i. ((e i).state, (tt, (tt, (tt, (tt, (tt, (tt, (tt, (tt, tt))))))))));
+      let e : after (replied cold_clock x) v.0 ≡ after (replied cold_clock y) w.0 = same (p cold_clock) (q cold_clock) in
+      (replied_same cold_clock x y (ap (λ (o : After). o.reply) e), λ i. ((e i).state, (tt, (tt, (tt, tt)))));
   capi_surge_open_determined = λ κs a g x y v w p q.
       let e : after (reply (answer x v.1.0 v.1.1.0) (clock v.1.1.1.0)) v.0 ≡ after (reply (answer y w.1.0 w.1.1.0) (clock w.1.1.1.0)) w.0 = same p q in (
         ap (λ (o : After). o.reply.answer.number) e,
@@ -197,10 +206,16 @@ each_determined = record {
       );
   refusals_refusal_determined = λ κs a g x y v w p q. (same p q, refl);
   forcelog_cold_determined = λ κs a g x y v w p q. (same p q, refl);
-  forcelog_take_determined = λ κs a g x y v w p q. (same p q, refl);
+  forcelog_take_determined = λ κs (text, (log, _)) g x y v w p q. (took_same log.now x y (same p q), refl);
   forcelog_end_determined = λ κs a g x y v w p q.
-      let e : save_out x v.0 ≡ save_out y w.0 = same p q in
-      (ap (λ (o : SaveOut). o.answer) e, λ i. ((e i).text, (tt, tt)));
+      let e : save_out (saved x) v.0 ≡ save_out (saved y) w.0 = same p q in
+      (saved_same x y (ap (λ (o : SaveOut). o.answer) e), λ i. ((e i).text, (tt, tt)));
+}
+
+pub each_determined_by_its_closure : EachDeterminedByItsClosure
+each_determined_by_its_closure = record {
+  rows_scan_determined = λ F b c m o d f κs a answers g x y v w p q. (answered_same x y (same (p f answers) (q f answers)), refl);
+  rows_scan_tests_determined = λ F b c m o d f κs a answers g x y v w p q. (answered_same x y (same (p f answers) (q f answers)), refl);
 }
 
 pub each_call_asks_nothing : EachCallAsksNothing

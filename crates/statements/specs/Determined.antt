@@ -1,16 +1,24 @@
 -- "No public function stands without a promise that determines its answer, and every lent slice afterwards, on all inputs. That at most one outcome
 -- satisfies it is proved": said of each public function's own contract, as it is read from the source. tools/promises holds the list to the source: each
 -- field is named by its function's crate and module, and speaks of that function's contract.
-use Rattle.std.specs.Prelude.{ℕ, ◌≡◌, List}
+use Rattle.std.specs.Prelude.{ℕ, ◌<◌, ◌≡◌, Bool, List}
+use mir.Syntax.{Dict}
+use denote.RattleType.{RattleType}
 use contract.Lifetimes.{Lfts}
 use denote.Triple.Entry.{Args, Res}
 use denote.Triple.Clauses.{Ended, Clauses, Lasts, at_exit}
 use borrow.Fn.World.{w₀}
 use Rattle.demands.specs.Ensured.{Requires, Ensures, told, says, nothing, 𝓛₀, mem₀, run₀}
-use Rattle.rows.specs.contracts.accept as rows_accept
+use Rattle.rows.specs.declared.Answer.{Answer}
+use Rattle.rows.specs.Refusals.{answered}
+use Rattle.rows.specs.contracts.scan.F-Fn as scan_calls
+use Rattle.rows.specs.contracts.scan_tests.F-Fn as scan_tests_calls
+use Rattle.rows.specs.contracts.Row.number as rows_row_number
 use Rattle.rows.specs.contracts.refuse as rows_refuse
 use Rattle.rows.specs.contracts.tested as rows_tested
 use Rattle.rows.specs.contracts.first as rows_first
+use Rattle.rows.specs.contracts.scan as rows_scan
+use Rattle.rows.specs.contracts.scan_tests as rows_scan_tests
 use Rattle.rows.specs.contracts.in_range as rows_in_range
 use Rattle.lists.specs.contracts.slices.is_runs as lists_slices_is_runs
 use Rattle.lists.specs.contracts.slices.clear as lists_slices_clear
@@ -32,6 +40,7 @@ use Rattle.limits.specs.contracts.is_calm as limits_is_calm
 use Rattle.limits.specs.contracts.elevation as limits_elevation
 use Rattle.patterns.specs.contracts.pattern_of as patterns_pattern_of
 use Rattle.patterns.specs.contracts.float_of as patterns_float_of
+use Rattle.frames.specs.contracts.Kind.byte as frames_kind_byte
 use Rattle.frames.specs.contracts.digits.tallied as frames_digits_tallied
 use Rattle.frames.specs.contracts.reading.value as frames_reading_value
 use Rattle.frames.specs.contracts.reading.float_at as frames_reading_float_at
@@ -59,6 +68,7 @@ use Rattle.geometry.specs.contracts.all_near as geometry_all_near
 use Rattle.geometry.specs.contracts.twice_area as geometry_twice_area
 use Rattle.geometry.specs.contracts.sum_of as geometry_sum_of
 use Rattle.mesh.specs.contracts.reading.corners_at as mesh_reading_corners_at
+use Rattle.mesh.specs.contracts.reading.corners_of as mesh_reading_corners_of
 use Rattle.mesh.specs.contracts.reading.places_at as mesh_reading_places_at
 use Rattle.mesh.specs.contracts.size_rows as mesh_size_rows
 use Rattle.mesh.specs.contracts.shape_rows as mesh_shape_rows
@@ -70,7 +80,6 @@ use Rattle.bounds.specs.contracts.run_rows as bounds_run_rows
 use Rattle.bounds.specs.contracts.forced_rows as bounds_forced_rows
 use Rattle.bounds.specs.contracts.weather_rows as bounds_weather_rows
 use Rattle.bounds.specs.contracts.list_rows as bounds_list_rows
-use Rattle.location.specs.contracts.nothing as location_nothing
 use Rattle.location.specs.contracts.survey as location_survey
 use Rattle.looking.specs.contracts.look as looking_look
 use Rattle.looking.specs.contracts.look_at as looking_look_at
@@ -93,10 +102,6 @@ use Rattle.surge.specs.contracts.step_all as surge_step_all
 use Rattle.grids.specs.contracts.read_grid as grids_read_grid
 use Rattle.forcings.specs.contracts.read_forcing as forcings_read_forcing
 use Rattle.saves.specs.contracts.save as saves_save
-use Rattle.editions.specs.contracts.edition_of as editions_edition_of
-use Rattle.editions.specs.contracts.due as editions_due
-use Rattle.editions.specs.contracts.node_wind as editions_node_wind
-use Rattle.editions.specs.contracts.line_row as editions_line_row
 use Rattle.loads.specs.contracts.load as loads_load
 use Rattle.capi.specs.contracts.surge_open as capi_surge_open
 use Rattle.capi.specs.contracts.surge_step as capi_surge_step
@@ -124,7 +129,7 @@ DeterminedSeen T c r seen =
     told (r κs a g x (at_exit T κs a v)) → told (r κs a g y (at_exit T κs a w)) → (seen κs x ≡ seen κs y) × (v ≡ w)
 
 pub record EachDetermined : Type 0 where
-  pub rows_accept_determined : Determined rows_accept.ended (rows_accept.clauses 𝓛₀ mem₀ run₀) (λ κs a g x s. says _)
+  pub rows_row_number_determined : Determined rows_row_number.ended (rows_row_number.clauses 𝓛₀ mem₀ run₀) (λ κs a g x s. says _)
   pub rows_refuse_determined : Determined rows_refuse.ended (rows_refuse.clauses 𝓛₀ mem₀ run₀) (λ κs a g x s. says _)
   pub rows_tested_determined : Determined rows_tested.ended (rows_tested.clauses 𝓛₀ mem₀ run₀) (λ κs a g x s. says _)
   pub rows_first_determined : Determined rows_first.ended (rows_first.clauses 𝓛₀ mem₀ run₀) (λ κs a g x s. says _)
@@ -149,6 +154,7 @@ pub record EachDetermined : Type 0 where
   pub limits_elevation_determined : Determined limits_elevation.ended (limits_elevation.clauses 𝓛₀ mem₀ run₀) (λ κs a g x s. says _)
   pub patterns_pattern_of_determined : Determined patterns_pattern_of.ended (patterns_pattern_of.clauses 𝓛₀ mem₀ run₀) (λ κs a g x s. says _)
   pub patterns_float_of_determined : Determined patterns_float_of.ended (patterns_float_of.clauses 𝓛₀ mem₀ run₀) (λ κs a g x s. says _)
+  pub frames_kind_byte_determined : Determined frames_kind_byte.ended (frames_kind_byte.clauses 𝓛₀ mem₀ run₀) (λ κs a g x s. says _)
   pub frames_digits_tallied_determined : Determined frames_digits_tallied.ended (frames_digits_tallied.clauses 𝓛₀ mem₀ run₀) (λ κs a g x s. says _)
   pub frames_reading_value_determined : Determined frames_reading_value.ended (frames_reading_value.clauses 𝓛₀ mem₀ run₀) (λ κs a g x s. says _)
   pub frames_reading_float_at_determined : Determined frames_reading_float_at.ended (frames_reading_float_at.clauses 𝓛₀ mem₀ run₀) (λ κs a g x s. says _)
@@ -176,6 +182,7 @@ pub record EachDetermined : Type 0 where
   pub geometry_twice_area_determined : Determined geometry_twice_area.ended (geometry_twice_area.clauses 𝓛₀ mem₀ run₀) (λ κs a g x s. says _)
   pub geometry_sum_of_determined : Determined geometry_sum_of.ended (geometry_sum_of.clauses 𝓛₀ mem₀ run₀) (λ κs a g x s. says _)
   pub mesh_reading_corners_at_determined : Determined mesh_reading_corners_at.ended (mesh_reading_corners_at.clauses 𝓛₀ mem₀ run₀) (λ κs a g x s. says _)
+  pub mesh_reading_corners_of_determined : Determined mesh_reading_corners_of.ended (mesh_reading_corners_of.clauses 𝓛₀ mem₀ run₀) (λ κs a g x s. says _)
   pub mesh_reading_places_at_determined : Determined mesh_reading_places_at.ended (mesh_reading_places_at.clauses 𝓛₀ mem₀ run₀) (λ κs a g x s. says _)
   pub mesh_size_rows_determined : Determined mesh_size_rows.ended (mesh_size_rows.clauses 𝓛₀ mem₀ run₀) (λ κs a g x s. says _)
   pub mesh_shape_rows_determined : Determined mesh_shape_rows.ended (mesh_shape_rows.clauses 𝓛₀ mem₀ run₀) (λ κs a g x s. says _)
@@ -187,7 +194,6 @@ pub record EachDetermined : Type 0 where
   pub bounds_forced_rows_determined : Determined bounds_forced_rows.ended (bounds_forced_rows.clauses 𝓛₀ mem₀ run₀) (λ κs a g x s. says _)
   pub bounds_weather_rows_determined : Determined bounds_weather_rows.ended (bounds_weather_rows.clauses 𝓛₀ mem₀ run₀) (λ κs a g x s. says _)
   pub bounds_list_rows_determined : Determined bounds_list_rows.ended (bounds_list_rows.clauses 𝓛₀ mem₀ run₀) (λ κs a g x s. says _)
-  pub location_nothing_determined : Determined location_nothing.ended (location_nothing.clauses 𝓛₀ mem₀ run₀) (λ κs a g x s. says _)
   pub location_survey_determined : Determined location_survey.ended (location_survey.clauses 𝓛₀ mem₀ run₀) (λ κs a g x s. says _)
   pub looking_look_determined : Determined looking_look.ended (looking_look.clauses 𝓛₀ mem₀ run₀) (λ κs a g x s. says _)
   pub looking_look_at_determined : Determined looking_look_at.ended (looking_look_at.clauses 𝓛₀ mem₀ run₀) (λ κs a g x s. says _)
@@ -222,6 +228,21 @@ pub record EachDetermined : Type 0 where
   pub forcelog_cold_determined : Determined forcelog_cold.ended (forcelog_cold.clauses 𝓛₀ mem₀ run₀) (λ κs a g x s. says _)
   pub forcelog_take_determined : Determined forcelog_take.ended (forcelog_take.clauses 𝓛₀ mem₀ run₀) (λ κs a g x s. says _)
   pub forcelog_end_determined : Determined forcelog_end.ended (forcelog_end.clauses 𝓛₀ mem₀ run₀) (λ κs a g x s. says _)
+
+-- the same of a function that is handed a closure, where `answers` holds of the arguments: it says of the closure what it answers
+abbrev pub DeterminedWhere : (T : Ended) (c : Clauses w₀.𝓤 T) → Ensures T c → ((κs : Lfts T.signature.lifetimes) → Args T.signature κs → Type 0) → Type 0
+DeterminedWhere T c r answers =
+    (κs : Lfts T.signature.lifetimes) (a : Args T.signature κs) → answers κs a → (g : (c κs a).ghost) (x y : Res T.signature κs) (v w : Lasts T κs a) →
+    told (r κs a g x (at_exit T κs a v)) → told (r κs a g y (at_exit T κs a w)) → (x ≡ y) × (v ≡ w)
+
+-- F is the closure's type, b what its bound says of its calls, and c, m, o and d the code of these and of its end, of which no clause speaks
+pub record EachDeterminedByItsClosure : Type 2 where
+  pub rows_scan_determined : (F : RattleType) (b : scan_calls.Ghosts F) (c m o d : Dict) (f : ℕ → Answer) →
+      DeterminedWhere (rows_scan.ended F b c m o d) (rows_scan.clauses F b c m o d 𝓛₀ mem₀ run₀) (λ κs a g x s. says _)
+      (λ κs (n, (ask, _)). (i : ℕ) (r : _) → i < n → rows_scan.F-post F b c m o d ask i r → answered r ≡ f i)
+  pub rows_scan_tests_determined : (F : RattleType) (b : scan_tests_calls.Ghosts F) (c m o d : Dict) (f : ℕ → Bool) →
+      DeterminedWhere (rows_scan_tests.ended F b c m o d) (rows_scan_tests.clauses F b c m o d 𝓛₀ mem₀ run₀) (λ κs a g x s. says _)
+      (λ κs (n, (holds, _)). (i : ℕ) (r : _) → i < n → rows_scan_tests.F-post F b c m o d holds i r → r ≡ f i)
 
 -- "Every call takes every mesh, state, forcing and text": what r reads, a function's `requires`, holds of all arguments
 abbrev pub AsksNothing : (T : Ended) (c : Clauses w₀.𝓤 T) → Requires T c → Type 0

@@ -1,6 +1,7 @@
 -- Document 02, #101: "Demands 2 and 3 stand over the mesh so read. A refused reading leaves the lent rooms untouched."
 -- Demands 1 and 2 of the reading itself, as demands/specs has them of the calls on a run; and what a run is on the mesh that was read.
 use Rattle.std.specs.Prelude.{ℕ, ◌≡◌, true, List, Float}
+use Rattle.rows.specs.Refusals.{answered}
 use Rattle.quantities.specs.declared.Parameters.{Parameters}
 use Rattle.mesh.specs.Lent.{Mesh}
 use Rattle.surge.specs.Lent.{Run, run}
@@ -24,8 +25,8 @@ use Rattle.capi.specs.contracts.surge_read_grid as surge_read_grid_contract
 abbrev pub ReadingGrid : (Grid → List ℕ → ReadOut → Type 0) → Type 0
 ReadingGrid Says =
     Keeps read_grid_contract.ended (read_grid_contract.clauses 𝓛₀ mem₀ run₀) (λ κs a g x s. says _)
-    (λ κs (x, (y, (h, (tri, (text, _))))) answer left.
-    Says (grid x.now y.now h.now tri.now) text.now (read_out answer (grid left.0 left.1.0 left.1.1.0 left.1.1.1.0)))
+    (λ κs (x, (y, (h, (tri, (text, _))))) result left.
+    Says (grid x.now y.now h.now tri.now) text.now (read_out (answered result) (grid left.0 left.1.0 left.1.1.0 left.1.1.1.0)))
 
 -- surge_read_grid(x, y, h, tri, place, value, text)
 abbrev pub ReadingGridC : (Grid → List ℕ → ReadOut → Type 0) → Type 0
