@@ -1,17 +1,17 @@
 -- Laws of a record: its rows, and what a gauge notes.
 use Prim.Native.Nat.{ℕ, zero, suc, ◌+◌, ◌<◌, ◌≤◌}
-use mathlib.Core.Path.{◌≡◌, refl, ap, ◌∙◌}
+use mathlib.Core.Path.{◌≡◌, refl, sym, ap, ◌∙◌}
 use mathlib.Core.Bool.{Bool, true, false, ◌&&◌}
 use mathlib.Core.List.{List}
 use native.Mathlib.Numerals.{add-one}
 use native.Mathlib.Omega.{arith}
-use borrow.Author.Tests.{eqb-true, leb-true, eq-eqb, ne_eqb, le-leb}
+use borrow.Author.Tests.{eqb-true, leb-true, eq-eqb, ne_eqb, le-leb, lt-leb}
 use lib.Dec.{eqb, leb}
 use lib.ListN.{length}
 use lib.Ieee.{Float}
 use Rattle.rows.specs.declared.Answer.{Answer}
-use Rattle.rows.specs.Scan.{row, ◌then◌, scan}
-use Rattle.rows.proofs.ScanLaws.{row_holds, row_passed, then_next, then_first, same_number, other_number, both_left, both_right}
+use Rattle.rows.specs.Scan.{refused, row, ◌then◌, scan}
+use Rattle.rows.proofs.ScanLaws.{row_fails, row_holds, row_passed, then_stop, then_next, then_first, same_number, other_number, both_left, both_right}
 use Rattle.crossing.proofs.CrossLaws.{written_length}
 use Rattle.location.specs.declared.seeking.Point.{Point}
 use Rattle.location.specs.Survey.{most}
@@ -29,6 +29,16 @@ module _ (b : List ℕ) where
 
   abbrev seen_rows : Answer
   seen_rows = scan (λ g. row (seen_fine g) 43 g) most
+
+  misshapen : shaped ≡ false → refused 43 0 ≡ row43 b
+  unfolding row43
+  misshapen e = sym (ap (λ (a : Answer). a then seen_rows) (row_fails 43 0 e) ∙ then_stop (refused 43 0) seen_rows (λ z. absurd (omega (arith, z))))
+
+  pub of_another_length : (length b ≡ record_bytes → ⊥) → refused 43 0 ≡ row43 b
+  of_another_length h = misshapen (rw (ne_eqb _ _ h))
+
+  pub of_too_many : length b ≡ record_bytes → most < count_in b → refused 43 0 ≡ row43 b
+  of_too_many h k = misshapen (rw (eq-eqb _ _ h, lt-leb _ _ k))
 
   pub row_by_row : length b ≡ record_bytes → count_in b ≤ most → row43 b ≡ seen_rows
   unfolding row43

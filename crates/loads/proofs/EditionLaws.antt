@@ -8,7 +8,7 @@ use lib.Ieee.{Float, nan}
 use Rattle.frames.specs.Frames.{digits_of}
 use Rattle.frames.specs.Reading.{float, values}
 use Rattle.frames.specs.Texts.{start_of}
-use Rattle.editions.specs.Lines.{Edition, layout_at, node_line, line_count}
+use Rattle.editions.specs.Lines.{Edition, edition1, layout_at, node_line, line_count}
 use Rattle.saves.proofs.LineLaws.{start_node, start_last}
 use Rattle.editions.specs.declared.Edition as code
 use Rattle.editions.specs.declared.Edition.TheVariants.{One, Two}
@@ -33,6 +33,11 @@ module _ (d : Edition) (n : ℕ) where
   all_lines =
       let nodes : line_count d n - length d.heads ≡ suc n = omega arith in
       ap (start_of (layout_at d n)) (its_node d n (line_count d n) (omega arith) ∙ ap (node_line d) nodes) ∙ start_last d n
+
+-- "70+73N bytes": edition 1 is read, and no longer written
+pub save1_long : (n : ℕ) → start_of (layout_at edition1 n) (line_count edition1 n) ≡ 70 + 73 * n
+unfolding start_of
+save1_long n = all_lines edition1 n ∙ omega arith
 
 -- a line before the nodes' starts at 0, or past the head of edition 2
 pub start_head : (d : code.Edition) (n j : ℕ) → j < length (lines_of d).heads → 25 * j ≡ start_of (layout_at (lines_of d) n) j
