@@ -1,5 +1,5 @@
 -- The product's records, from the numbers that a C program passes and gets back one by one. What a call does is said by the product's own
--- definitions (open_of, stepOf, step_all_of, save_of, loadOf, takenOf, readOf) on these records, and by nothing else.
+-- definitions (open_of, step_of, step_all_of, save_of, load_of, taken_of, read_of) on these records, and by nothing else.
 use Rattle.std.specs.Prelude.{ℕ, not, eqb, Float}
 use Rattle.rows.specs.declared.Answer.{Answer}
 use Rattle.quantities.specs.declared.Parameters.{Parameters}

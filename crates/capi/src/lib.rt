@@ -225,11 +225,8 @@ pub extern "C" fn surge_read_forcing(
 ) -> u32
     ensures { taken (answer result place.new value.new) forcing.new ≡ taken_of forcing.old text.now expected }
 {
-    hand_back(
-        place,
-        value,
-        forcings::read_forcing(forcing, text, expected),
-    )
+    let taken = forcings::read_forcing(forcing, text, expected);
+    hand_back(place, value, taken)
 }
 
 // Reads a grid file into the rooms of a mesh.
@@ -245,5 +242,6 @@ pub extern "C" fn surge_read_grid(
 ) -> u32
     ensures { read_out (answer result place.new value.new) (grid x.new y.new h.new tri.new) ≡ read_of (grid x.old y.old h.old tri.old) text.now }
 {
-    hand_back(place, value, grids::read_grid(x, y, h, tri, text))
+    let read = grids::read_grid(x, y, h, tri, text);
+    hand_back(place, value, read)
 }

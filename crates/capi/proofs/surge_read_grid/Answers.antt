@@ -5,5 +5,5 @@ use Rattle.capi.proofs.surge_read_grid.Goals as goal
 
 pub returns : goal.returns
 returns c =
-    let new = c.read_grid.new in
-    ap (λ (a : Answer). read_out a (grid new.x new.y new.h new.tri)) c.hand_back.ensures ∙ c.read_grid.ensures
+    let new = c.read_grid-read.new in
+    ap (λ (a : Answer). read_out a (grid new.x new.y new.h new.tri)) c.hand_back.ensures ∙ c.read_grid-read.ensures
