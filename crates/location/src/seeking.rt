@@ -1,13 +1,15 @@
 // A point among the triangles. Rows 1 to 10 have been asked, so that no test is made here of the sides or of the state's length.
 ghost use Rattle.std.specs.Prelude.{◌≡◌, ℕ, ◌*◌, ◌/◌, ◌<◌, true, length};
 ghost use Rattle.lists.specs.Runs.{in_run};
-ghost use Rattle.geometry.specs.Geometry.{east_of, north_of, sides_at, all_near, D};
+ghost use Rattle.lists.specs.Private.{Below};
+ghost use Rattle.geometry.specs.Geometry.{nodes_of, east_of, north_of, sides_at, all_near, D};
+ghost use Rattle.mesh.specs.Geometry.{places_of};
 ghost use Rattle.mesh.specs.Private.{Sound};
 ghost use Rattle.bounds.specs.State.{state_runs};
 ghost use Rattle.location.specs.Private.{Short, for_second, for_third, where_inside};
 ghost use Rattle.location.specs.Location.{weights, elevation, weights_at, contains, triangle_of, is_inside, sighted};
 
-use geometry::{Places, WholeSides};
+use geometry::{Corners, Places, WholeSides};
 use mesh::{Mesh, reading};
 
 // A point in whole metres.
@@ -82,18 +84,40 @@ fn weights_of(c: Places, p: Point) -> Weights
     Weights { w1, w2, w3, d }
 }
 
+// The coordinates of these corners, which are nodes: the search over the triangles makes no test of them.
+fn places_at(m: &Mesh<'_>, c: Corners) -> Places
+    requires same { length m.now.y.now ≡ length m.now.x.now }
+    requires nodes { Below (nodes_of c) (length m.now.x.now) }
+    ensures { result ≡ places_of m.now.x.now m.now.y.now (nodes_of c) }
+{
+    let i = c.n1;
+    let j = c.n2;
+    let k = c.n3;
+    Places {
+        x1: m.x[i],
+        x2: m.x[j],
+        x3: m.x[k],
+        y1: m.y[i],
+        y2: m.y[j],
+        y3: m.y[k],
+    }
+}
+
 // The sub-areas of a point in triangle t.
 fn weights_at(m: &Mesh<'_>, p: Point, t: usize) -> Weights
-    requires { (t < length m.now.tri.now / 3) × Sound m.now.x.now m.now.y.now m.now.tri.now t }
+    requires same { length m.now.y.now ≡ length m.now.x.now }
+    requires there { t < length m.now.tri.now / 3 }
+    requires sound { Sound m.now.x.now m.now.y.now m.now.tri.now t }
     ensures { result ≡ weights_at m.now.x.now m.now.y.now m.now.tri.now p t }
 {
-    let c = reading::corners_at(m, t);
-    weights_of(reading::places_at(m, c), p)
+    weights_of(places_at(m, reading::corners_at(m, t)), p)
 }
 
 // Whether triangle t contains the point: none of its sub-areas is negative.
 fn contains(m: &Mesh<'_>, p: Point, t: usize) -> bool
-    requires { (t < length m.now.tri.now / 3) × Sound m.now.x.now m.now.y.now m.now.tri.now t }
+    requires same { length m.now.y.now ≡ length m.now.x.now }
+    requires there { t < length m.now.tri.now / 3 }
+    requires sound { Sound m.now.x.now m.now.y.now m.now.tri.now t }
     ensures { result ≡ contains m.now.x.now m.now.y.now m.now.tri.now p t }
 {
     let w = weights_at(m, p, t);
@@ -102,7 +126,8 @@ fn contains(m: &Mesh<'_>, p: Point, t: usize) -> bool
 
 // The lowest-numbered triangle that contains the point.
 fn locate(m: &Mesh<'_>, p: Point) -> Option<usize>
-    requires { (t : ℕ) → t < length m.now.tri.now / 3 → Sound m.now.x.now m.now.y.now m.now.tri.now t }
+    requires same { length m.now.y.now ≡ length m.now.x.now }
+    requires by_index { (t : ℕ) → t < length m.now.tri.now / 3 → Sound m.now.x.now m.now.y.now m.now.tri.now t }
     ensures { result ≡ where_inside (is_inside m.now.x.now m.now.y.now m.now.tri.now p) (triangle_of m.now.x.now m.now.y.now m.now.tri.now p) }
 {
     let e = m.tri.len() / 3;
@@ -134,6 +159,7 @@ fn present(n: usize, state: &[f64], i: usize) -> f64
 
 // The triangle of a point, and the elevation there.
 pub(crate) fn sight(m: &Mesh<'_>, state: &[f64], p: Point) -> Option<Sighting>
+    requires same { length m.now.y.now ≡ length m.now.x.now }
     requires state_len { length state.now ≡ state_runs * length m.now.x.now }
     requires by_index { (t : ℕ) → t < length m.now.tri.now / 3 → Sound m.now.x.now m.now.y.now m.now.tri.now t }
     ensures { result ≡ where_inside (is_inside m.now.x.now m.now.y.now m.now.tri.now p) (sighted m.now.x.now m.now.y.now m.now.tri.now p (in_run (length m.now.x.now) 1 state.now)) }

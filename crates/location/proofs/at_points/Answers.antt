@@ -22,7 +22,7 @@ loop-g-init c =
     (fill_none 64 (triangle_at a.ps m.x.now m.y.now m.tri.now a.state.now) 0, fill_none 64 (level_at a.ps m.x.now m.y.now m.tri.now a.state.now) plus0)
 
 pub sight-requires : goal.sight-requires
-sight-requires c = record { state_len = c.requires.1; by_index = c.requires.0.triangles }
+sight-requires c = record { same = c.requires.0.sized.y; state_len = c.requires.1; by_index = c.requires.0.triangles }
 
 -- a coordinate of a point, which was handed on as bits
 back : (v : ℤ) → mag v < 2 ^ 31 → to_z w32 (of_z w32 v) ≡ v

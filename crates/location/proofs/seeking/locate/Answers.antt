@@ -5,7 +5,7 @@ use Rattle.location.proofs.SightLaws.{found_there, found_nowhere, is_there, is_n
 use Rattle.location.proofs.seeking.locate.Goals as goal
 
 pub contains-requires : goal.contains-requires
-contains-requires c = (c.loop-t-test.true, c.requires _ c.loop-t-test.true)
+contains-requires c = record { same = c.requires.same; there = c.loop-t-test.true; sound = c.requires.by_index _ c.loop-t-test.true }
 
 pub returns-then-contains : goal.returns-then-contains
 unfolding triangle_of

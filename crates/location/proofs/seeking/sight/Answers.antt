@@ -12,7 +12,9 @@ use Rattle.location.proofs.seeking.sight.Goals as goal
 use Rattle.location.proofs.seeking.sight.Goals.{After-corners_at-c, After-present-z3}
 
 pub weights_at-w-requires : goal.weights_at-w-requires
-weights_at-w-requires c = let f = found_below _ _ _ _ c.in_ok-triangle.was c.locate.ensures in (f.2, c.requires.by_index _ f.2)
+weights_at-w-requires c =
+    let f = found_below _ _ _ _ c.in_ok-triangle.was c.locate.ensures in
+    record { same = c.requires.same; there = f.2; sound = c.requires.by_index _ f.2 }
 
 -- the corners of the triangle that was found, and that they are nodes
 its : (c : After-corners_at-c) → nodes_of c.corners_at-c.result ≡ corners c.args.m.now.tri.now c.in_ok-triangle.triangle
