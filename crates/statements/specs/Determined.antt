@@ -235,7 +235,8 @@ DeterminedWhere T c r answers =
     (κs : Lfts T.signature.lifetimes) (a : Args T.signature κs) → answers κs a → (g : (c κs a).ghost) (x y : Res T.signature κs) (v w : Lasts T κs a) →
     told (r κs a g x (at_exit T κs a v)) → told (r κs a g y (at_exit T κs a w)) → (x ≡ y) × (v ≡ w)
 
--- F is the closure's type, b what its bound says of its calls, and c, m, o and d the code of these and of its end, of which no clause speaks
+-- For every closure: F is its type, b what its bound says of its calls, and c, m, o and d the code of these and of its end, of which no clause speaks. What is
+-- said of all types is above the facts that a function can promise: this record is no part of EveryStatement, and tools/promises asks for its proof.
 pub record EachDeterminedByItsClosure : Type 2 where
   pub rows_scan_determined : (F : RattleType) (b : scan_calls.Ghosts F) (c m o d : Dict) (f : ℕ → Answer) →
       DeterminedWhere (rows_scan.ended F b c m o d) (rows_scan.clauses F b c m o d 𝓛₀ mem₀ run₀) (λ κs a g x s. says _)
