@@ -32,5 +32,7 @@ pub fn copy(to: &mut [f64], from: &[f64])
     ensures { to.new ≡ copied from.now to.old }
 {
     let n = to.len().min(from.len());
-    to[..n].copy_from_slice(&from[..n]);
+    for i in 0..n {
+        to[i] = from[i];
+    }
 }
