@@ -13,7 +13,7 @@ use rows::Refusal;
 use surge::Clock;
 
 // Mesh T.
-const MESH: Mesh<'static> = Mesh {
+static MESH: Mesh<'static> = Mesh {
     x: &[0, 100, 0],
     y: &[0, 0, 100],
     tri: &[0, 1, 2],
