@@ -8,14 +8,11 @@ use borrow.Author.Tests.{eqb-true, eqb-false, eq-eqb, ne_eqb}
 use lib.Dec.{eqb}
 use lib.ListN.{length}
 use lib.Ieee.{Float}
-use Rattle.std.specs.Result.{is_ok}
 use Rattle.rows.specs.declared.Answer.{Answer}
-use Rattle.rows.specs.Refusals.{answered}
 use Rattle.rows.specs.Numbers.{plus0}
 use Rattle.rows.specs.Scan.{accepted}
 use Rattle.lists.specs.Table.{table, zeros}
 use Rattle.lists.proofs.TableLaws.{table_same, table_join}
-use Rattle.rows.proofs.RefusalLaws.{Asked, answered_ok}
 use Rattle.rows.proofs.ScanLaws.{row_passed, then_first, then_rest, other_number}
 use Rattle.quantities.specs.declared.Parameters.{Parameters}
 use Rattle.limits.specs.Limits.{row11}
@@ -58,18 +55,17 @@ module _ (m : Mesh) (p : Parameters) (state : List Float) (step : ℕ) (l : List
     unfolding list_rows
     whole = eqb-true _ _ (row_passed _ 0 0 (then_rest _ _ (then_rest _ _ ok)))
 
-    pub list_none : length l ≡ 0 → (a : Asked) {next : List Float} → answered a ≡ run_rows accepted m p state → next ≡ cond (is_ok a) state r.next
-        → unmoved step (answered a) (record { next = next; work = r.work; sums = r.sums }) ≡ its
+    pub list_none : length l ≡ 0 → {a : Answer} {next : List Float} → a ≡ run_rows accepted m p state → next ≡ cond (eqb a.number 0) state r.next
+        → unmoved step a (record { next = next; work = r.work; sums = r.sums }) ≡ its
     unfolding list_of
-    list_none none a {next} e q =
-        let left = q ∙ ap (λ (b : Bool). cond b state r.next) (answered_ok a) in
+    list_none none {a} {next} e q =
         rw (eq-eqb _ 0 ok, eq-eqb _ 0 none)
-        ((λ i. unmoved step (answered a) (record { next = left i; work = r.work; sums = r.sums })) ∙ go (eqb (answered a).number 0) ∙ (λ i. unmoved step (e i) (cond (eqb (e i).number 0) copied r)))
+        ((λ i. unmoved step a (record { next = q i; work = r.work; sums = r.sums })) ∙ go (eqb a.number 0) ∙ (λ i. unmoved step (e i) (cond (eqb (e i).number 0) copied r)))
       where
         copied : Rooms
         copied = record { next = state; work = r.work; sums = r.sums }
 
-        go : (b : Bool) → unmoved step (answered a) (record { next = cond b state r.next; work = r.work; sums = r.sums }) ≡ unmoved step (answered a) (cond b copied r)
+        go : (b : Bool) → unmoved step a (record { next = cond b state r.next; work = r.work; sums = r.sums }) ≡ unmoved step a (cond b copied r)
         go true = refl
         go false = refl
 

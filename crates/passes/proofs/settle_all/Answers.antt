@@ -1,6 +1,6 @@
 use Prim.Native.Nat.{ℕ, ◌-◌, ◌*◌, ◌/◌, ◌<◌, ◌≤◌}
 use mathlib.Core.Path.{◌≡◌, sym, ap, ◌∙◌}
-use mathlib.Core.Bool.{not, true}
+use mathlib.Core.Bool.{Bool, not, true, cond}
 use mathlib.Core.List.{List, ◌++◌}
 use native.Mathlib.Nat.{zero-mul}
 use native.Mathlib.Omega.{arith}
@@ -13,6 +13,7 @@ use Rattle.std.specs.Result.{is_ok}
 use Rattle.rows.specs.declared.Answer.{Answer}
 use Rattle.rows.specs.Refusals.{answered}
 use Rattle.lists.specs.Table.{table, zeros}
+use Rattle.rows.proofs.RefusalLaws.{answered_ok}
 use Rattle.rows.proofs.ScanLaws.{same_number, row_passed}
 use Rattle.limits.specs.Limits.{row11}
 use Rattle.mesh.specs.Lent.{Mesh, mesh_of}
@@ -80,7 +81,7 @@ returns-then-list-eq0 c =
     let a = c.args in
     let e = (goal.at.returns-then-list-eq0 c).Else-is_err in
     ap (λ (o : handed.Progress). turns (progress_of o) c.settle_none.new.next a.work.now a.sums.now) c.unmoved-then-list-eq0.ensures
-    ∙ list_none (net1 e) a.p a.state.now a.step a.list.now (lent1 e) (passed e) c.if-list-eq0.true _ c.settle_none.ensures.0 c.settle_none.ensures.1
+    ∙ list_none (net1 e) a.p a.state.now a.step a.list.now (lent1 e) (passed e) c.if-list-eq0.true c.settle_none.ensures.0 (c.settle_none.ensures.1 ∙ ap (λ (b : Bool). cond b a.state.now a.next.now) (answered_ok _))
 
 -- ---- the first forcing
 abbrev net2 : After-settle-first → Mesh
