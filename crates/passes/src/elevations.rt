@@ -9,7 +9,7 @@ ghost use Rattle.lists.specs.Private.{Below};
 ghost use Rattle.triangle.specs.Triangle.{means};
 ghost use Rattle.geometry.specs.Geometry.{nodes_of};
 ghost use Rattle.bounds.specs.State.{state_runs, node_of};
-ghost use Rattle.passes.specs.Equations.{count, S};
+ghost use Rattle.passes.specs.Equations.{Given as StepReads, count, S};
 ghost use Rattle.outcomes.specs.Outcomes.{rise_row};
 ghost use Rattle.passes.specs.Row13.{rise_rows};
 ghost use Rattle.passes.specs.Settle.{work_runs};
@@ -90,10 +90,11 @@ pub(crate) fn rises(work: &mut [f64], sums: &[u64], g: &Given<'_>) -> Asked
     refused_rise(n, h, work)
 }
 
-// The first node whose z' row 13 refuses.
+// The first node whose z' row 13 refuses: of any room, and so of the room that a step leaves.
 fn refused_rise(n: usize, h: &[f64], work: &[f64]) -> Asked
     requires { (length h.now ≡ n) × (length work.now ≡ work_runs * n) }
-    ensures { answered result ≡ scan (λ i. rise_row (get_or h.now i nan) (in_run n 0 work.now i) i) n }
+    ensures value { answered result ≡ scan (λ i. rise_row (get_or h.now i nan) (in_run n 0 work.now i) i) n }
+    ensures of_a_step { (g : StepReads) → h.now ≡ g.mesh.h → work.now ≡ rise_room g → n ≡ count g → answered result ≡ rise_rows g }
 {
     rows::scan(n, |i| outcomes::rise_row(h[i], work[0 * n + i], i))
 }

@@ -12,7 +12,7 @@ ghost use Rattle.velocity.specs.Velocity.{flow_of, push_of};
 ghost use Rattle.geometry.specs.Geometry.{nodes_of};
 ghost use Rattle.bounds.specs.State.{state_runs, node_of};
 ghost use Rattle.bounds.specs.Forcing.{wind_runs, wind_at};
-ghost use Rattle.passes.specs.Equations.{count, S};
+ghost use Rattle.passes.specs.Equations.{Given as StepReads, count, S};
 ghost use Rattle.outcomes.specs.Outcomes.{flow_row};
 ghost use Rattle.passes.specs.Row13.{flow_rows};
 ghost use Rattle.passes.specs.Settle.{work_runs};
@@ -129,10 +129,11 @@ pub(crate) fn flows(work: &mut [f64], sums: &[u64], g: &Given<'_>) -> Asked
     refused_flow(n, work)
 }
 
-// The first node whose U' or V' row 13 refuses.
+// The first node whose U' or V' row 13 refuses, likewise.
 fn refused_flow(n: usize, work: &[f64]) -> Asked
     requires { length work.now ≡ work_runs * n }
-    ensures { answered result ≡ scan (λ i. flow_row (record { u = in_run n 1 work.now i; v = in_run n 2 work.now i }) i) n }
+    ensures value { answered result ≡ scan (λ i. flow_row (record { u = in_run n 1 work.now i; v = in_run n 2 work.now i }) i) n }
+    ensures of_a_step { (g : StepReads) → work.now ≡ flow_room g → n ≡ count g → answered result ≡ flow_rows g }
 {
     rows::scan(n, |i| {
         let u = work[1 * n + i];

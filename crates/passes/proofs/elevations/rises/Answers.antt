@@ -15,7 +15,7 @@ use Rattle.passes.specs.Equations.{Given, count, node, rise}
 use Rattle.outcomes.specs.Outcomes.{rise_row}
 use Rattle.passes.specs.Settle.{work_runs}
 use Rattle.passes.specs.Private.{given_of, Fits, rise_room}
-use Rattle.passes.proofs.PassLaws.{rises_read, Place, place, rises_to, its_rise, rise_more, rise_none, rise_all}
+use Rattle.passes.proofs.PassLaws.{Place, place, rises_to, its_rise, rise_more, rise_none, rise_all}
 use Rattle.passes.proofs.elevations.rises.Goals as goal
 use Rattle.passes.proofs.elevations.rises.Goals.{After-loop-i, At-loop-i, In-loop-i, Start}
 
@@ -78,7 +78,7 @@ returns-then-all c =
 pub returns : goal.returns
 returns c =
     let w = goal.at.returns c in
-    (c.refused_rise.ensures ∙ rises_read (here w.At-loop-i) refl (all w.After-loop-i) refl, all w.After-loop-i)
+    (c.refused_rise.ensures.of_a_step (here w.At-loop-i) refl (all w.After-loop-i) refl, all w.After-loop-i)
 
 pub node_of-c-requires : goal.node_of-c-requires
 node_of-c-requires c = let z = fits (goal.at.node_of-c-requires c).At-loop-i in (c.loop-i-test.true, z.shape.sized.h, z.state)

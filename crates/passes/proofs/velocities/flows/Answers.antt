@@ -14,7 +14,7 @@ use Rattle.passes.specs.Equations.{Given, count, flow_at}
 use Rattle.outcomes.specs.Outcomes.{flow_row}
 use Rattle.passes.specs.Settle.{work_runs}
 use Rattle.passes.specs.Private.{given_of, Fits, flow_room}
-use Rattle.passes.proofs.PassLaws.{flows_read, Place, place, flows_to, its_flow, flow_more, flow_none, flow_all}
+use Rattle.passes.proofs.PassLaws.{Place, place, flows_to, its_flow, flow_more, flow_none, flow_all}
 use Rattle.passes.proofs.velocities.flows.Goals as goal
 use Rattle.passes.proofs.velocities.flows.Goals.{After-loop-i, At-loop-i, In-loop-i, Start}
 
@@ -70,7 +70,7 @@ returns-then-all c =
 pub returns : goal.returns
 returns c =
     let w = goal.at.returns c in
-    (c.refused_flow.ensures ∙ flows_read (here w.At-loop-i) (all w.After-loop-i) refl, all w.After-loop-i)
+    (c.refused_flow.ensures.of_a_step (here w.At-loop-i) (all w.After-loop-i) refl, all w.After-loop-i)
 
 pub loop-i-init : goal.loop-i-init
 loop-i-init c = (omega arith, (c.requires.work_value.0 ∙ flow_none (its (goal.at.loop-i-init c).Start), all_none _))
