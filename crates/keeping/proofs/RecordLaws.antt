@@ -128,6 +128,12 @@ module _ (asked also : Answer) (level : ℕ → Float) (step : ℕ) (b : List �
   update_accepted h l = λ i. update_out (e i) (if_accepted_lem e (all_noted level step (count_in b) b) b h l i)
 
 -- ---- what is done with a record goes by the answer alone
+pub add_same : (asked other : Answer) (inside found : Bool) (q : Point) (b : List ℕ) → add_answer asked inside b ≡ add_answer other found b
+    → add_of asked inside q b ≡ add_of other found q b
+unfolding add_of
+add_same asked other inside found q b e =
+    ap (λ (a : Answer). add_out (record { answer = a; gauge = if_accepted a (count_in b) 0 }) (if_accepted a (added q b) b)) e
+
 pub update_same : (asked also other too : Answer) (l m : ℕ → Float) (step : ℕ) (b : List ℕ) → (e : (asked then row43 b then also) ≡ (other then row43 b then too))
     → ((asked then row43 b then also).number ≡ 0 → (g : ℕ) → g < count_in b → l g ≡ m g) → update_of asked also l step b ≡ update_of other too m step b
 unfolding update_of

@@ -1,4 +1,4 @@
--- A loop over the first places of a table: those that it has not come to hold what all held first.
+-- A loop over the first places of a table, that writes some of them: those that it has not come to, and those that it passes over, hold what all held first.
 use Rattle.std.proofs.Common.{◌≡◌, ℕ, ◌+◌, ◌<◌, Bool, true, false, cond, eqb, ltb, set, sym, refl, ap, ◌∙◌, arith, ltb-false, ltb-true, le-ltb, lt-ltb, eqb-true}
 use Prim.Native.Nat.{min}
 use borrow.Author.Tests.{eqb-false}
@@ -18,11 +18,25 @@ module _ {A : Type 0} (n : ℕ) (f : ℕ → A) (o : A) where
       go false e true d = rw (lt-ltb k (g + 1) (omega (arith, ltb-true k g d)))
       go false e false d = rw (le-ltb k (g + 1) (omega (arith, eqb-false k g e, ltb-false k g d)))
 
+  filled_same : (g k : ℕ) → f g ≡ o → filled g k ≡ filled (g + 1) k
+  filled_same g k q = go (eqb k g) refl (ltb k g) refl
+    where
+      go : (b : Bool) → eqb k g ≡ b → (c : Bool) → ltb k g ≡ c → cond c (f k) o ≡ filled (g + 1) k
+      go b e true d = rw (lt-ltb k (g + 1) (omega (arith, ltb-true k g d)))
+      go true e false d = rw (lt-ltb k (g + 1) (omega (arith, eqb-true k g e))) (sym (ap f (eqb-true k g e) ∙ q))
+      go false e false d = rw (le-ltb k (g + 1) (omega (arith, eqb-false k g e, ltb-false k g d)))
+
   pub fill_none : table n (λ _. o) ≡ table n (filled 0)
   fill_none = table_same n (λ _. o) (filled 0) (λ k l. sym (ap (λ (b : Bool). cond b (f k) o) (le-ltb k 0 (omega arith))))
 
   pub fill_put : (g : ℕ) {v : A} → v ≡ f g → set (table n (filled g)) g v ≡ table n (filled (g + 1))
   fill_put g q = set_table n (filled g) g _ ∙ table_same n _ (filled (g + 1)) (λ k l. filled_next g k q)
+
+  pub fill_skip : (g : ℕ) → f g ≡ o → table n (filled g) ≡ table n (filled (g + 1))
+  fill_skip g q = table_same n (filled g) (filled (g + 1)) (λ k l. filled_same g k q)
+
+  pub fill_whole : table n (filled n) ≡ table n f
+  fill_whole = table_same n (filled n) f (λ k l. ap (λ (b : Bool). cond b (f k) o) (lt-ltb k n l))
 
   -- the first `count` of them, as far as there are so many
   below_both : (count k : ℕ) → k < n → ltb k (min count n) ≡ ltb k count

@@ -78,8 +78,8 @@ in_run_lem {c} {n} k m h b = record {
   third = in_runs n k m c.third h b.third;
 }
 
--- ---- what the code asks at a place, as a law over variables: a `search` or an `omega` at the place itself goes through all
--- that is known there
+-- ---- what the code asks at a place and at the end of a turn, as laws over variables: a `search` or an `omega` at the place itself goes through all that
+-- is known there
 -- place i of run k, of m runs of n in a room that is as long as it was lent: its numbers do not wrap, and it is within the room
 pub record Place (k n i here : ℕ) : Type 0 where
   pub run : mir.Val.Fits w64 (k * n)
@@ -95,6 +95,14 @@ place {n} {i} k m h l long same bytes =
       bytes = record { fits = omega arith };
       within = omega arith;
     }
+
+-- after turn i of n
+pub record Turned (n i : ℕ) : Type 0 where
+  pub next : i + 1 ≤ n
+  pub fits : mir.Val.Fits w64 (i + 1)
+
+pub turn : {n i : ℕ} → i < n → n < 2 ^ 64 → Turned n i
+turn h l = record { next = omega arith; fits = record { fits = omega arith } }
 
 -- where a run starts
 pub run_fits : {n : ℕ} (k : ℕ) → T (leb k work_runs) → n ≤ 4096 → mir.Val.Fits w64 (k * n)
