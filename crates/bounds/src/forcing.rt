@@ -38,12 +38,9 @@ fn winds_rows(n: usize, winds: &[f64]) -> Asked
     requires { length winds.now ≡ wind_runs * n }
     ensures { answered result ≡ scan (λ i. row12_wind (wind_at n winds.now i) i) n }
 {
-    rows::scan_tests(
-        n,
-        |i| limits::is_calm(wind_at(n, winds, i)),
-        Row::Forcing,
-        2,
-    )
+    rows::scan_tests(n, |i| {
+        rows::tested(limits::is_calm(wind_at(n, winds, i)), Row::Forcing, 2 + i)
+    })
 }
 
 // Row 12 of a forcing of n nodes: its elevation, then its winds.

@@ -45,12 +45,9 @@ fn nodes(n: usize, h: &[f64], state: &[f64]) -> Asked
     requires { (length h.now ≡ n) × (length state.now ≡ state_runs * n) }
     ensures { answered result ≡ scan (row10 n h.now state.now) n }
 {
-    rows::scan_tests(
-        n,
-        |i| limits::in_bounds(node_of(n, h, state, i)),
-        Row::State,
-        0,
-    )
+    rows::scan_tests(n, |i| {
+        rows::tested(limits::in_bounds(node_of(n, h, state, i)), Row::State, i)
+    })
 }
 
 // What the call tests before, the state's length, the mesh's rows, then row 10.

@@ -18,7 +18,9 @@ fn depths(n: usize, h: &[f64], kind: &[u8]) -> Asked
     requires { (length h.now ≡ n) × (length kind.now ≡ n) }
     ensures { answered result ≡ scan (row8 h.now kind.now) n }
 {
-    rows::scan_tests(n, |i| limits::is_node(h[i], kind[i]), Row::Depth, 0)
+    rows::scan_tests(n, |i| {
+        rows::tested(limits::is_node(h[i], kind[i]), Row::Depth, i)
+    })
 }
 
 // Rows 7, 8 and 9.

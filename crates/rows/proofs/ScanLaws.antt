@@ -135,6 +135,14 @@ module _ (test : ℕ → Bool) (number : ℕ) (place : ℕ → ℕ) where
   abbrev row_of : ℕ → Answer
   row_of i = row (test i) (suc number) (place i)
 
+  pub row_accepts : (i : ℕ) → test i ≡ eqb (row_of i).number 0
+  unfolding row
+  row_accepts i = go (test i)
+    where
+      go : (b : Bool) → b ≡ eqb (row b (suc number) (place i)).number 0
+      go true = refl
+      go false = sym (ne_eqb (suc number) 0 (λ e. absurd (omega (arith, e))))
+
   met : {n : ℕ} → ((k : ℕ) → k < n → test k ≡ true) → (k : ℕ) → k < n → (row_of k).number ≡ 0
   met h k l = ap (λ (a : Answer). a.number) (row_holds (suc number) (place k) (h k l))
 

@@ -1,7 +1,7 @@
 // What a row of the refusal table answers.
 #![tactic(auto)]
 
-ghost use Rattle.std.specs.Prelude.{◌≡◌, ℕ, Bool, ◌+◌, ◌^◌, ◌<◌};
+ghost use Rattle.std.specs.Prelude.{◌≡◌, ℕ, ◌<◌};
 ghost use Rattle.rows.specs.Numbers.{within};
 ghost use Rattle.rows.specs.declared.Answer.{Answer};
 ghost use Rattle.rows.specs.Scan.{refused, row, ◌then◌, scan};
@@ -150,24 +150,19 @@ pub fn scan<F: Fn(usize) -> Asked>(n: usize, ask: F) -> Asked
     Ok(())
 }
 
-// The same of one row, whose place is counted from `first`. All places are tested before the first is looked for that fails: the loop has no early exit,
-// so that a compiler can vectorise it.
-pub fn scan_tests<F: Fn(usize) -> bool>(n: usize, holds: F, of: Row, first: usize) -> Asked
-    requires callable { (i : ℕ) → i < n → F.pre holds i }
-    requires places { first + n < 2 ^ 64 }
-    ensures { (f : ℕ → Bool) → ((i : ℕ) (r : _) → i < n → F.post holds i r → r ≡ f i) → answered result ≡ scan (λ i. row (f i) (number_of of) (first + i)) n }
+// The same, but all places are asked before the first is looked for that refuses: the loop has no early exit, so that a compiler can vectorise it.
+pub fn scan_tests<F: Fn(usize) -> Asked>(n: usize, ask: F) -> Asked
+    requires callable { (i : ℕ) → i < n → F.pre ask i }
+    ensures { (f : ℕ → Answer) → ((i : ℕ) (r : _) → i < n → F.post ask i r → answered r ≡ f i) → answered result ≡ scan f n }
 {
     let mut all = true;
     for i in 0..n {
-        all = all & holds(i);
+        all = all & ask(i).is_ok();
     }
     if all {
         return Ok(());
     }
-    scan(n, |i| {
-        let place = first + i;
-        tested(holds(i), of, place)
-    })
+    scan(n, ask)
 }
 
 // A NaN is outside every range.

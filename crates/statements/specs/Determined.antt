@@ -1,7 +1,7 @@
 -- "No public function stands without a promise that determines its answer, and every lent slice afterwards, on all inputs. That at most one outcome
 -- satisfies it is proved": said of each public function's own contract, as it is read from the source. tools/promises holds the list to the source: each
 -- field is named by its function's crate and module, and speaks of that function's contract.
-use Rattle.std.specs.Prelude.{ℕ, ◌<◌, ◌≡◌, Bool, List}
+use Rattle.std.specs.Prelude.{ℕ, ◌<◌, ◌≡◌, List}
 use mir.Syntax.{Dict}
 use denote.RattleType.{RattleType}
 use contract.Lifetimes.{Lfts}
@@ -241,9 +241,9 @@ pub record EachDeterminedByItsClosure : Type 2 where
   pub rows_scan_determined : (F : RattleType) (b : scan_calls.Ghosts F) (c m o d : Dict) (f : ℕ → Answer) →
       DeterminedWhere (rows_scan.ended F b c m o d) (rows_scan.clauses F b c m o d 𝓛₀ mem₀ run₀) (λ κs a g x s. says _)
       (λ κs (n, (ask, _)). (i : ℕ) (r : _) → i < n → rows_scan.F-post F b c m o d ask i r → answered r ≡ f i)
-  pub rows_scan_tests_determined : (F : RattleType) (b : scan_tests_calls.Ghosts F) (c m o d : Dict) (f : ℕ → Bool) →
+  pub rows_scan_tests_determined : (F : RattleType) (b : scan_tests_calls.Ghosts F) (c m o d : Dict) (f : ℕ → Answer) →
       DeterminedWhere (rows_scan_tests.ended F b c m o d) (rows_scan_tests.clauses F b c m o d 𝓛₀ mem₀ run₀) (λ κs a g x s. says _)
-      (λ κs (n, (holds, _)). (i : ℕ) (r : _) → i < n → rows_scan_tests.F-post F b c m o d holds i r → r ≡ f i)
+      (λ κs (n, (ask, _)). (i : ℕ) (r : _) → i < n → rows_scan_tests.F-post F b c m o d ask i r → answered r ≡ f i)
 
 -- "Every call takes every mesh, state, forcing and text": what r reads, a function's `requires`, holds of all arguments
 abbrev pub AsksNothing : (T : Ended) (c : Clauses w₀.𝓤 T) → Requires T c → Type 0
