@@ -45,7 +45,7 @@ fn hand_back(place: &mut usize, value: &mut f64, asked: Asked) -> u32
     answer.number
 }
 
-// And what a call on a run gives: a refusal leaves the step number.
+// And what a step or a load gives: a refusal leaves the step number.
 fn hand_clock(
     place: &mut usize,
     value: &mut f64,
@@ -85,8 +85,9 @@ pub extern "C" fn surge_open(
 {
     let p = parameters(dt, tau, k, f, advection);
     let m = Mesh { x, y, tri, h, kind };
-    *step = 0;
-    hand_clock(place, value, step, surge::open(state, &m, p))
+    let opened = surge::open(state, &m, p);
+    *step = opened.clock.step;
+    hand_back(place, value, opened.asked)
 }
 
 // Steps. The clock goes in and comes back.

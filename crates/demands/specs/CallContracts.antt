@@ -9,7 +9,8 @@ use Rattle.quantities.specs.declared.Parameters.{Parameters}
 use Rattle.surge.specs.declared.Clock.{Clock}
 use Rattle.rows.specs.Refusals.{answered}
 use Rattle.mesh.specs.Lent.{Mesh, mesh, mesh_of}
-use Rattle.surge.specs.Lent.{Run, run, cold_clock, replied, After, after}
+use Rattle.surge.specs.Lent.{Run, run, replied, After, after}
+use Rattle.surge.specs.Open.{open_replied}
 use Rattle.surge.specs.Step.{StepOut, step_out}
 use Rattle.surge.specs.StepAll.{list_replied, list_out}
 use Rattle.passes.specs.InTurn.{Turns}
@@ -45,7 +46,7 @@ Keeps T c r Says =
 abbrev pub Opening : (Mesh → Parameters → List Float → After → Type 0) → Type 0
 Opening Says =
     Keeps open_contract.ended (open_contract.clauses 𝓛₀ mem₀ run₀) (λ κs a g x s. says _)
-    (λ κs (state, (m, (p, _))) result left. Says (mesh_of m.now) p state.now (after (replied cold_clock result) left.0))
+    (λ κs (state, (m, (p, _))) reply left. Says (mesh_of m.now) p state.now (after (open_replied reply) left.0))
 
 -- step(next, work, sums, state, f, m, p, clock): of the mesh, the parameters, the run, the forcing, the rooms as they were lent, and what is left
 abbrev pub Stepping : (Mesh → Parameters → Run → List Float → Rooms → StepOut → Type 0) → Type 0

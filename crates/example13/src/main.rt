@@ -50,7 +50,9 @@ fn two_steps(state: &mut [f64], next: &mut [f64]) -> Result<Clock, Refusal> {
     let calm = [0.0; 7];
     let mut work = [0.0; 15];
     let mut sums = [0u64; 3];
-    let cold = surge::open(state, &m, p)?;
+    let opened = surge::open(state, &m, p);
+    opened.asked?;
+    let cold = opened.clock;
     let first = surge::step(next, &mut work, &mut sums, state, &wind, &m, p, cold)?;
     surge::step(state, &mut work, &mut sums, next, &calm, &m, p, first)
 }

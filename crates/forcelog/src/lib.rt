@@ -42,10 +42,11 @@ pub fn cold() -> Log
     ensures { result ≡ cold_log }
 {
     let mut state = [0.0; 18];
-    let clock = surge::open(&mut state, &MESH, P).unwrap();
+    let opened = surge::open(&mut state, &MESH, P);
+    opened.asked.unwrap();
     Log {
         lines: 0,
-        clock,
+        clock: opened.clock,
         state,
     }
 }

@@ -11,6 +11,7 @@ use Rattle.passes.specs.Settle.{Settled, settled}
 use Rattle.passes.specs.InTurn.{Turns}
 use Rattle.passes.specs.SettleAll.{progress_of, turns}
 use Rattle.surge.specs.Step.{StepOut, step_out}
+use Rattle.surge.specs.Open.{open_replied}
 use Rattle.surge.specs.StepAll.{list_replied, list_out}
 use Rattle.saves.specs.Save.{SaveOut, saved, save_out}
 use Rattle.grids.specs.Grid.{grid, ReadOut, read_out}
@@ -145,8 +146,8 @@ each_determined = record {
         λ i. ((e i).last.rooms.next, ((e i).last.rooms.work, ((e i).last.rooms.sums, (tt, (tt, (tt, (tt, (tt, tt)))))))),
       );
   surge_open_determined = λ κs a g x y v w p q.
-      let e : after (replied cold_clock x) v.0 ≡ after (replied cold_clock y) w.0 = same p q in
-      (replied_same cold_clock x y (ap (λ (o : After). o.reply) e), λ i. ((e i).state, (tt, (tt, tt))));
+      let e : after (open_replied x) v.0 ≡ after (open_replied y) w.0 = same p q in
+      (λ i. record { asked = answered_same x.asked y.asked (ap (λ (o : After). o.reply.answer) e) i; clock = (e i).reply.clock }, λ i. ((e i).state, (tt, (tt, tt))));
   surge_step_determined = λ κs (next, (work, (sums, (state, (f, (m, (parameters, (clock, _)))))))) g x y v w p q.
       let e : step_out (replied clock x) v.0 v.1.0 v.1.1.0 ≡ step_out (replied clock y) w.0 w.1.0 w.1.1.0 = same p q in (
         replied_same clock x y (ap (λ (o : StepOut). o.reply) e),

@@ -5,7 +5,7 @@ ghost use Rattle.std.specs.Prelude.{◌≡◌, ◌<◌};
 ghost use Rattle.mesh.specs.Lent.{mesh_of};
 ghost use Rattle.passes.specs.Settle.{lent_rooms};
 ghost use Rattle.surge.specs.Lent.{run, cold_clock, advanced, replied, after};
-ghost use Rattle.surge.specs.Open.{open_of};
+ghost use Rattle.surge.specs.Open.{open_replied, open_of};
 ghost use Rattle.surge.specs.Step.{step_out, step_of};
 ghost use Rattle.surge.specs.StepAll.{list_replied, list_out, step_all_of};
 
@@ -39,6 +39,13 @@ impl Clock {
     }
 }
 
+// What opening a mesh hands back: what it answers, and in either case the clock.
+#[derive(Clone, Copy)]
+pub struct Reply {
+    pub asked: Asked,
+    pub clock: Clock,
+}
+
 // What a call on a list of forcings hands back: what it answers, and in either case the clock and the count of accepted steps.
 #[derive(Clone, Copy)]
 pub struct ListReply {
@@ -47,14 +54,19 @@ pub struct ListReply {
     pub accepted: u32,
 }
 
-// Opens a mesh: rows 1 to 9, then the cold state and the cold clock. A refusal leaves the state as found.
-pub fn open(state: &mut [f64], m: &Mesh<'_>, p: Parameters) -> Result<Clock, Refusal>
-    ensures { after (replied cold_clock result) state.new ≡ open_of (mesh_of m.now) p state.old }
+// Opens a mesh: rows 1 to 9, then the cold state. A refusal leaves the state as found. The cold clock comes back either way.
+pub fn open(state: &mut [f64], m: &Mesh<'_>, p: Parameters) -> Reply
+    ensures { after (open_replied result) state.new ≡ open_of (mesh_of m.now) p state.old }
 {
     let long = slices::is_runs(state.len(), STATE_RUNS, m.x.len());
-    nodes::open_rows(rows::tested(long, Row::Lengths, 0), m, p)?;
-    slices::clear(state);
-    Ok(Clock::cold())
+    let asked = nodes::open_rows(rows::tested(long, Row::Lengths, 0), m, p);
+    if asked.is_ok() {
+        slices::clear(state);
+    }
+    Reply {
+        asked,
+        clock: Clock::cold(),
+    }
 }
 
 // A step: what is tested of mesh, state, clock and forcing, then row 13 and the next state in `next`. A refusal leaves `next` and the clock as found,
