@@ -118,15 +118,21 @@ def closing(text, at, pair='{}'):
     return len(text)
 
 
-def clauses(text, at):
-    """The kinds of clause between a function's name, which ends at `at`, and its body; and where the body begins."""
+def written(text, at):
+    """The clauses between a function's name, which ends at `at`, and its body, each by its kind and what its braces hold; and where the body begins."""
     at = closing(text, text.find('(', at), '()')
     at = RESULT.match(text, at).end()
-    kinds = []
+    found = []
     while (m := CLAUSE.match(text, at)) and m.group('kind') in CLAUSES:
-        kinds.append(m.group('kind'))
         at = closing(text, m.end())
-    return tuple(kinds), at
+        found.append((m.group('kind'), ' '.join(text[m.end() + 1:at - 1].split())))
+    return found, at
+
+
+def clauses(text, at):
+    """The kinds of clause of a function whose name ends at `at`; and where its body begins."""
+    found, at = written(text, at)
+    return tuple(kind for kind, _ in found), at
 
 
 def module_of(crate, file):
