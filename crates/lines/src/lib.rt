@@ -3,10 +3,9 @@
 
 ghost use Rattle.std.specs.Prelude.{◌≡◌, ◌<◌};
 ghost use Rattle.frames.specs.Bytes.{digit, digits, field};
-ghost use Rattle.frames.specs.Kinds.{kind_of};
 ghost use Rattle.lines.specs.Building.{appended, begun, sealed, put_out, put_of};
 
-use frames::{Kind, digits};
+use frames::digits;
 
 // The digits of the longest line, and its line feed.
 const LONGEST: usize = 105;
@@ -29,14 +28,14 @@ pub struct Line {
 }
 
 impl Line {
-    pub fn begin(kind: Kind, sequence: u64) -> Line
-        ensures { result ≡ begun (kind_of kind) sequence }
+    pub fn begin(kind: u8, sequence: u64) -> Line
+        ensures { result ≡ begun kind sequence }
     {
         let blank = Line {
             bytes: [0u8; LONGEST],
             len: 0,
         };
-        blank.append(1, kind.byte() as u64).append(2, sequence)
+        blank.append(1, kind as u64).append(2, sequence)
     }
 
     // The lowest `width` bytes of the value, written from the last digit to the first, so that each is a remainder.

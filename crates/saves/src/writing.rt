@@ -27,7 +27,7 @@ impl Saved<'_> {
     fn head_line(&self) -> Line
         ensures { result ≡ holding (text (line head2 0 (self.now.n ∷ self.now.e ∷ self.now.clock.step ∷ []))) }
     {
-        let counts = Line::begin(Kind::Head2, 0)
+        let counts = Line::begin(Kind::Head2.byte(), 0)
             .append(2, self.n as u64)
             .append(2, self.e as u64);
         counts.append(4, self.clock.step as u64).seal()
@@ -36,7 +36,7 @@ impl Saved<'_> {
     fn run_line(&self) -> Line
         ensures { result ≡ holding (text (line run2 1 (run_values self.now.p self.now.sum))) }
     {
-        let dt = Line::begin(Kind::Run, 1).append(8, patterns::pattern_of(self.p.dt));
+        let dt = Line::begin(Kind::Run.byte(), 1).append(8, patterns::pattern_of(self.p.dt));
         let tau = dt.append(8, patterns::pattern_of(self.p.tau));
         let k = tau.append(8, patterns::pattern_of(self.p.k));
         let f = k.append(8, patterns::pattern_of(self.p.f));
@@ -49,7 +49,7 @@ impl Saved<'_> {
     {
         let n = self.n;
         let state = self.state;
-        let begun = Line::begin(Kind::Node2, i as u64 + 2);
+        let begun = Line::begin(Kind::Node2.byte(), i as u64 + 2);
         let earlier = begun.append(8, patterns::pattern_of(state[0 * n + i]));
         let z = earlier.append(8, patterns::pattern_of(state[1 * n + i]));
         let u = z.append(8, patterns::pattern_of(state[2 * n + i]));
@@ -62,7 +62,7 @@ impl Saved<'_> {
         requires { self.now.n ≤ 4096 }
         ensures { result ≡ holding (text (line end_layout (self.now.n + 2) (self.now.n ∷ []))) }
     {
-        Line::begin(Kind::End, self.n as u64 + 2)
+        Line::begin(Kind::End.byte(), self.n as u64 + 2)
             .append(2, self.n as u64)
             .seal()
     }

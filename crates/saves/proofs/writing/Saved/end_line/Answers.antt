@@ -11,4 +11,4 @@ pub returns : goal.returns
 unfolding with_fields
 returns c =
     let n = c.args.self.now.n in
-    rw (c.seal.ensures, c.append.ensures, c.begin.ensures) (built (line end_layout (n + 2) (n ∷ [])) (lit< tt))
+    rw (c.seal.ensures, c.append.ensures, c.begin.ensures, c.byte.ensures) (built (line end_layout (n + 2) (n ∷ [])) (lit< tt))

@@ -10,5 +10,5 @@ pub returns : goal.returns
 unfolding with_fields
 returns c =
     let a = c.args.self.now in
-    rw (c.seal.ensures, c.append-2.ensures, c.append-counts.ensures, c.append.ensures, c.begin.ensures)
+    rw (c.seal.ensures, c.append-2.ensures, c.append-counts.ensures, c.append.ensures, c.begin.ensures, c.byte.ensures)
     (built (line head2 0 (a.n ∷ a.e ∷ a.clock.step ∷ [])) (lit< tt))

@@ -14,5 +14,5 @@ returns c =
     let a = c.args.self.now in
     rw (c.seal.ensures, c.append.ensures, c.pattern_of-6.ensures, c.append-wx.ensures, c.pattern_of-5.ensures)
     (rw (c.append-v.ensures, c.pattern_of-4.ensures, c.append-u.ensures, c.pattern_of-3.ensures)
-    (rw (c.append-z.ensures, c.pattern_of-2.ensures, c.append-earlier.ensures, c.pattern_of.ensures, c.begin-begun.ensures)
+    (rw (c.append-z.ensures, c.pattern_of-2.ensures, c.append-earlier.ensures, c.pattern_of.ensures, c.begin-begun.ensures, c.byte.ensures)
     (built (line node2 (c.args.i + 2) (state_values a.n a.state.now c.args.i)) (lit< tt))))

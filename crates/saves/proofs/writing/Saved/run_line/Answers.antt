@@ -12,5 +12,5 @@ unfolding with_fields
 returns c =
     let a = c.args.self.now in
     rw (c.seal.ensures, c.append.ensures, c.append-f.ensures, c.pattern_of-4.ensures, c.append-k.ensures, c.pattern_of-3.ensures)
-    (rw (c.append-tau.ensures, c.pattern_of-2.ensures, c.append-dt.ensures, c.pattern_of.ensures, c.begin.ensures)
+    (rw (c.append-tau.ensures, c.pattern_of-2.ensures, c.append-dt.ensures, c.pattern_of.ensures, c.begin.ensures, c.byte.ensures)
     (built (line run2 1 (run_values a.p a.sum)) (lit< tt)))
