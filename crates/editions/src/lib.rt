@@ -69,18 +69,18 @@ pub fn node_wind(d: Edition, held: Wind, values: [u64; 6]) -> Wind
 }
 
 // Row 23 of a line of this kind: N and E at a head, N at the end line, nothing at another.
-fn counts(n: usize, e: usize, line: &[u8], kind: Kind, j: usize) -> Asked
-    ensures { answered result ≡ row23 n e line.now (kind_of kind) j }
+fn counts(n: usize, e: usize, line: &[u8], kind: u8, j: usize) -> Asked
+    ensures { answered result ≡ row23 n e line.now kind j }
 {
-    match kind {
-        Kind::Head1 | Kind::Head2 => {
-            let nodes = reading::value(line, 3, 2) == n as u64;
-            let triangles = reading::value(line, 5, 2) == e as u64;
-            rows::tested(nodes & triangles, Row::MeshSize, j)
-        }
-        Kind::End => rows::tested(reading::value(line, 3, 2) == n as u64, Row::MeshSize, j),
-        _ => Ok(()),
+    if (kind == Kind::Head1.byte()) | (kind == Kind::Head2.byte()) {
+        let nodes = reading::value(line, 3, 2) == n as u64;
+        let triangles = reading::value(line, 5, 2) == e as u64;
+        return rows::tested(nodes & triangles, Row::MeshSize, j);
     }
+    if kind == Kind::End.byte() {
+        return rows::tested(reading::value(line, 3, 2) == n as u64, Row::MeshSize, j);
+    }
+    Ok(())
 }
 
 // The fields of a line 05 are the run's, bit by bit.
@@ -96,27 +96,27 @@ fn run_right(p: Parameters, sum: u64, line: &[u8]) -> bool
 }
 
 // Row 25 of a line of this kind.
-fn settings(p: Parameters, sum: u64, line: &[u8], kind: Kind, j: usize) -> Asked
-    ensures { answered result ≡ row25 p sum line.now (kind_of kind) j }
+fn settings(p: Parameters, sum: u64, line: &[u8], kind: u8, j: usize) -> Asked
+    ensures { answered result ≡ row25 p sum line.now kind j }
 {
-    match kind {
-        Kind::Run => rows::tested(run_right(p, sum, line), Row::Settings, j),
-        _ => Ok(()),
+    if kind == Kind::Run.byte() {
+        return rows::tested(run_right(p, sum, line), Row::Settings, j);
     }
+    Ok(())
 }
 
 // Rows 20 to 23 and 25 of line j, where these digits and this kind are due: of a mesh of n nodes and e triangles, the sum of its D, and parameters.
 pub fn line_row(
     line: &[u8],
     due: usize,
-    kind: Kind,
+    kind: u8,
     n: usize,
     e: usize,
     sum: u64,
     p: Parameters,
     j: usize,
 ) -> Asked
-    ensures { answered result ≡ (fault line.now due (kind_of kind) j j then row23 n e line.now (kind_of kind) j then row25 p sum line.now (kind_of kind) j) }
+    ensures { answered result ≡ (fault line.now due kind j j then row23 n e line.now kind j then row25 p sum line.now kind j) }
 {
     faults::fault(line, due, kind, j as u64, j)?;
     counts(n, e, line, kind, j)?;

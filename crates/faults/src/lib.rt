@@ -3,10 +3,9 @@
 
 ghost use Rattle.std.specs.Prelude.{◌≡◌};
 ghost use Rattle.rows.specs.Refusals.{answered};
-ghost use Rattle.frames.specs.Kinds.{kind_of};
 ghost use Rattle.faults.specs.Faults.{is_framed, fault};
 
-use frames::{Kind, digits, reading};
+use frames::{digits, reading};
 use rows::{Asked, Row};
 
 // The digits due, two for each byte, and then the line feed and nothing more.
@@ -20,13 +19,13 @@ fn is_framed(line: &[u8], due: usize) -> bool
 }
 
 // Rows 20, 21 and 22 of a line of `due` digits that is to have this kind and this sequence.
-pub fn fault(line: &[u8], due: usize, kind: Kind, sequence: u64, place: usize) -> Asked
-    ensures { answered result ≡ fault line.now due (kind_of kind) sequence place }
+pub fn fault(line: &[u8], due: usize, kind: u8, sequence: u64, place: usize) -> Asked
+    ensures { answered result ≡ fault line.now due kind sequence place }
 {
     let tally = digits::tallied(line);
     rows::tested(is_framed(line, due) & tally.right, Row::Framing, place)?;
     rows::tested(tally.sum == 0, Row::CheckByte, place)?;
-    let same = (reading::value(line, 0, 1) == kind.byte() as u64)
+    let same = (reading::value(line, 0, 1) == kind as u64)
         & (reading::value(line, 1, 2) == sequence);
     rows::tested(same, Row::Sequence, place)
 }

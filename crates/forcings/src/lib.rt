@@ -14,10 +14,11 @@ fn line_row(text: &[u8], j: usize) -> Asked
     ensures { answered result ≡ line_fault forcing_lines text.now j }
 {
     if j == 0 {
-        return faults::fault(reading::part(text, 0, 25), 24, Kind::Elevation, 0, 0);
+        return faults::fault(reading::part(text, 0, 25), 24, Kind::Elevation.byte(), 0, 0);
     }
     let at = (j - 1).saturating_mul(41).saturating_add(25);
-    faults::fault(reading::part(text, at, 41), 40, Kind::Wind, j as u64, j)
+    let line = reading::part(text, at, 41);
+    faults::fault(line, 40, Kind::Wind.byte(), j as u64, j)
 }
 
 // The lines of kinds 14 and 15 in turn, and then the bytes after the last.
@@ -73,7 +74,7 @@ pub fn read_forcing(room: &mut [f64], text: &[u8], expected: u32) -> Asked
     let n = room.len() / 2;
     rows::tested(room.len() % 2 == 1, Row::Lengths, 0)?;
     if reading::starts(text, b'1', b'0') {
-        faults::fault(text, 56, Kind::Forcing, expected as u64, 0)?;
+        faults::fault(text, 56, Kind::Forcing.byte(), expected as u64, 0)?;
         fill_10(room, n, text);
     } else {
         rows_14(n, text)?;

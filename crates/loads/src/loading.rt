@@ -82,7 +82,7 @@ impl SaveText<'_> {
     {
         let line = self.line_at(j);
         let its = editions::due(self.edition, self.n, j);
-        editions::line_row(line, its.digits, its.kind, self.n, e, sum, p, j)
+        editions::line_row(line, its.digits, its.kind.byte(), self.n, e, sum, p, j)
     }
 
     // How many lines there are: the last is the end line.

@@ -1,25 +1,22 @@
 use mathlib.Core.Path.{◌≡◌}
-use mathlib.Core.Bool.{true}
-use mathlib.Core.Logic.{⊎_elim}
+use mathlib.Core.Bool.{true, false}
+use borrow.Author.Tests.{ne_eqb}
 use Rattle.rows.specs.Scan.{row}
-use Rattle.frames.specs.Kinds.{kind_of}
-use Rattle.frames.specs.declared.Kind.TheVariants.{Head1, End, Head2}
-use Rattle.frames.proofs.KindLaws.{kind_other}
 use Rattle.editions.specs.Rows.{is_head, row23}
 use Rattle.editions.proofs.counts.Goals as goal
 
-pub returns-in-Head1 : goal.returns-in-Head1
+pub returns-then-kind-byte : goal.returns-then-kind-byte
 unfolding row23
-returns-in-Head1 c =
-    let head : is_head (kind_of c.args.kind) ≡ true = ⊎_elim (λ e. rw e) (λ e. rw e) c.in-Head1.is in
-    rw (c.tested.ensures, c.value.ensures, c.value-in-Head1.ensures, head)
+returns-then-kind-byte c =
+    let head : is_head c.args.kind ≡ true = rw (c.byte.ensures, c.byte-2.ensures) at c.if-kind-byte.true in
+    rw (c.tested.ensures, c.value.ensures, c.value-then-kind-byte.ensures, head)
 
-pub returns-in-End : goal.returns-in-End
+pub returns-then-kind-byte-2 : goal.returns-then-kind-byte-2
 unfolding row23
-returns-in-End c = rw (c.tested-in-End.ensures, c.value-in-End.ensures, c.in-End.is)
+returns-then-kind-byte-2 c = rw (c.tested-then-kind-byte-2.ensures, c.value-then-kind-byte-2.ensures, c.if-kind-byte-2.true, c.byte-3.ensures)
 
-pub returns-in_default : goal.returns-in_default
+pub returns : goal.returns
 unfolding row23 row
-returns-in_default c =
-    let other = kind_other c.args.kind in
-    rw (other Head1 c.in_default.not-Head1, other Head2 c.in_default.not-Head2, other End c.in_default.not-End)
+returns c =
+    let other : is_head c.args.kind ≡ false = rw (c.byte.ensures, c.byte-2.ensures) at c.if-kind-byte.false in
+    rw (other, ne_eqb c.args.kind 3 (rw c.byte-3.ensures at c.if-kind-byte-2.false))

@@ -1,13 +1,12 @@
+use borrow.Author.Tests.{ne_eqb}
 use Rattle.rows.specs.Scan.{row}
-use Rattle.frames.specs.declared.Kind.TheVariants.{Run}
-use Rattle.frames.proofs.KindLaws.{kind_other}
 use Rattle.editions.specs.Rows.{row25}
 use Rattle.editions.proofs.settings.Goals as goal
 
-pub returns-in-Run : goal.returns-in-Run
+pub returns-then-kind-byte : goal.returns-then-kind-byte
 unfolding row25
-returns-in-Run c = rw (c.tested.ensures, c.run_right.ensures, c.in-Run.is)
+returns-then-kind-byte c = rw (c.tested.ensures, c.run_right.ensures, c.if-kind-byte.true, c.byte.ensures)
 
-pub returns-in_default : goal.returns-in_default
+pub returns : goal.returns
 unfolding row25 row
-returns-in_default c = rw (kind_other c.args.kind Run c.in_default.not-Run)
+returns c = rw (ne_eqb c.args.kind 5 (rw c.byte.ensures at c.if-kind-byte.false))

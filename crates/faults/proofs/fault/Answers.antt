@@ -18,4 +18,4 @@ pub returns : goal.returns
 unfolding tallied fault row20 row21 row22
 returns c =
     went (rw (c.is_framed.ensures, c.tallied-tally.ensures) at c.in_ok-tested.ensures)
-    (went (rw c.tallied-tally.ensures at c.in_ok-tested-2.ensures) (rw (c.value.ensures, c.byte.ensures, c.value-2.ensures) at c.tested-3.ensures))
+    (went (rw c.tallied-tally.ensures at c.in_ok-tested-2.ensures) (rw (c.value.ensures, c.value-2.ensures) at c.tested-3.ensures))

@@ -21,7 +21,7 @@ returns-in_err-tested c = forcing_refused _ _ _ _ _ c.from_residual.ensures.1 (a
 
 pub returns-in_err-fault : goal.returns-in_err-fault
 returns-in_err-fault c =
-    let its-10 = answer_10 _ _ _ (fits (goal.at.returns-in_err-fault c).In_ok-tested) (sym c.starts.ensures ∙ c.if-starts.true) c.in_err-fault.ensures in
+    let its-10 = answer_10 _ _ _ (fits (goal.at.returns-in_err-fault c).In_ok-tested) (sym c.starts.ensures ∙ c.if-starts.true) (rw c.byte.ensures at c.in_err-fault.ensures) in
     forcing_refused _ _ _ _ _ c.from_residual-in_err-fault.ensures.1 its-10
 
 pub returns-in_err-rows_14 : goal.returns-in_err-rows_14
@@ -38,7 +38,7 @@ fill_14-requires c = (long (goal.at.fill_14-requires c).In_ok-tested, lines_with
 pub returns-in_ok-fault : goal.returns-in_ok-fault
 returns-in_ok-fault c =
     let is-10 = sym c.starts.ensures ∙ c.if-starts.true in
-    let its-10 = answer_10 _ _ _ (fits (goal.at.returns-in_ok-fault c).In_ok-tested) is-10 c.in_ok-fault.ensures in
+    let its-10 = answer_10 _ _ _ (fits (goal.at.returns-in_ok-fault c).In_ok-tested) is-10 (rw c.byte.ensures at c.in_ok-fault.ensures) in
     forcing_taken _ _ _ its-10 (c.fill_10.ensures ∙ forcing_10 _ _ is-10)
 
 pub returns-in_ok-rows_14 : goal.returns-in_ok-rows_14
