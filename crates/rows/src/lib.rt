@@ -1,6 +1,8 @@
 // What a row of the refusal table answers.
 #![tactic(auto)]
 
+pub mod answers;
+
 ghost use Rattle.std.specs.Prelude.{◌≡◌, ℕ, ◌<◌};
 ghost use Rattle.rows.specs.Numbers.{within};
 ghost use Rattle.rows.specs.declared.Answer.{Answer};
@@ -93,25 +95,6 @@ pub struct Answer {
     pub number: u32,
     pub place: usize,
     pub value: f64,
-}
-
-impl From<Asked> for Answer {
-    ghost from_gives = { λ asked answer. answer ≡ answered asked };
-
-    fn from(asked: Asked) -> Answer {
-        match asked {
-            Ok(()) => Answer {
-                number: 0,
-                place: 0,
-                value: 0.0,
-            },
-            Err(refusal) => Answer {
-                number: refusal.row.number(),
-                place: refusal.place,
-                value: refusal.value,
-            },
-        }
-    }
 }
 
 pub fn refuse(of: Row, place: usize) -> Asked

@@ -29,6 +29,10 @@ same p q = p ∙ sym q
 
 pub each_determined : EachDetermined
 each_determined = record {
+  rows_answers_accept_determined = λ κs a g x y v w p q. (same p q, refl);
+  rows_answers_refuse_determined = λ κs a g x y v w p q. (same p q, refl);
+  rows_answers_tested_determined = λ κs a g x y v w p q. (same p q, refl);
+  rows_answers_first_determined = λ κs a g x y v w p q. (same p q, refl);
   rows_row_number_determined = λ κs a g x y v w p q. (same p q, refl);
   rows_refuse_determined = λ κs a g x y v w p q. (answered_same x y (same p q), refl);
   rows_tested_determined = λ κs a g x y v w p q. (answered_same x y (same p q), refl);

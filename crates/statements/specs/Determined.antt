@@ -13,6 +13,10 @@ use Rattle.rows.specs.declared.Answer.{Answer}
 use Rattle.rows.specs.Refusals.{answered}
 use Rattle.rows.specs.contracts.scan.F-Fn as scan_calls
 use Rattle.rows.specs.contracts.scan_tests.F-Fn as scan_tests_calls
+use Rattle.rows.specs.contracts.answers.accept as rows_answers_accept
+use Rattle.rows.specs.contracts.answers.refuse as rows_answers_refuse
+use Rattle.rows.specs.contracts.answers.tested as rows_answers_tested
+use Rattle.rows.specs.contracts.answers.first as rows_answers_first
 use Rattle.rows.specs.contracts.Row.number as rows_row_number
 use Rattle.rows.specs.contracts.refuse as rows_refuse
 use Rattle.rows.specs.contracts.tested as rows_tested
@@ -129,6 +133,10 @@ DeterminedSeen T c r seen =
     told (r κs a g x (at_exit T κs a v)) → told (r κs a g y (at_exit T κs a w)) → (seen κs x ≡ seen κs y) × (v ≡ w)
 
 pub record EachDetermined : Type 0 where
+  pub rows_answers_accept_determined : Determined rows_answers_accept.ended (rows_answers_accept.clauses 𝓛₀ mem₀ run₀) (λ κs a g x s. says _)
+  pub rows_answers_refuse_determined : Determined rows_answers_refuse.ended (rows_answers_refuse.clauses 𝓛₀ mem₀ run₀) (λ κs a g x s. says _)
+  pub rows_answers_tested_determined : Determined rows_answers_tested.ended (rows_answers_tested.clauses 𝓛₀ mem₀ run₀) (λ κs a g x s. says _)
+  pub rows_answers_first_determined : Determined rows_answers_first.ended (rows_answers_first.clauses 𝓛₀ mem₀ run₀) (λ κs a g x s. says _)
   pub rows_row_number_determined : Determined rows_row_number.ended (rows_row_number.clauses 𝓛₀ mem₀ run₀) (λ κs a g x s. says _)
   pub rows_refuse_determined : Determined rows_refuse.ended (rows_refuse.clauses 𝓛₀ mem₀ run₀) (λ κs a g x s. says _)
   pub rows_tested_determined : Determined rows_tested.ended (rows_tested.clauses 𝓛₀ mem₀ run₀) (λ κs a g x s. says _)

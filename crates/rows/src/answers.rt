@@ -1,0 +1,54 @@
+// Answers as they cross to C, on any number and any answer: what a row answers, and the first of two.
+ghost use Rattle.std.specs.Prelude.{◌≡◌};
+ghost use Rattle.rows.specs.Scan.{accepted, refused, row, ◌then◌};
+ghost use Rattle.rows.specs.Refusals.{answered};
+
+use crate::{Answer, Asked};
+
+pub fn accept() -> Answer
+    ensures { result ≡ accepted }
+{
+    refuse(0, 0)
+}
+
+pub fn refuse(number: u32, place: usize) -> Answer
+    ensures { result ≡ refused number place }
+{
+    Answer {
+        number,
+        place,
+        value: 0.0,
+    }
+}
+
+// A row whose test is `holds`.
+pub fn tested(holds: bool, number: u32, place: usize) -> Answer
+    ensures { result ≡ row holds number place }
+{
+    if holds {
+        accept()
+    } else {
+        refuse(number, place)
+    }
+}
+
+// The first of two answers that refuses.
+pub fn first(a: Answer, b: Answer) -> Answer
+    ensures { result ≡ (a then b) }
+{
+    if a.number == 0 { b } else { a }
+}
+
+impl From<Asked> for Answer {
+    ghost from_gives = { λ asked answer. answer ≡ answered asked };
+
+    fn from(asked: Asked) -> Answer {
+        match asked {
+            Ok(()) => accept(),
+            Err(refusal) => Answer {
+                value: refusal.value,
+                ..refuse(refusal.row.number(), refusal.place)
+            },
+        }
+    }
+}
