@@ -27,7 +27,7 @@ unsigned (negsuc n) = 2 ^ 32 - suc n
 unfoldable pub elements : {A : Type 0} → ℕ → (ℕ → A) → List ℕ → List A
 elements w f b = table (length b / w) (λ i. f (number_at b (w * i) w))
 
--- "x, y (4 each), tri (2 each), h and state (8-byte patterns)"
+-- "on numbers and byte slices only", of document 02, #106: of x and y 4 bytes are a number, of tri 2, and of h and the state 8, a float's pattern
 abbrev pub ints_of : List ℕ → List ℤ
 ints_of = elements 4 signed
 

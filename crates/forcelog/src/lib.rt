@@ -12,7 +12,8 @@ use quantities::Parameters;
 use rows::Refusal;
 use surge::Clock;
 
-// Mesh T.
+// Mesh T. A static, so that each use refers to the one value: the compiler follows it into the rows that every step asks. It does not follow a constant, which
+// each use builds anew (docs/DECISIONS.md 160).
 static MESH: Mesh<'static> = Mesh {
     x: &[0, 100, 0],
     y: &[0, 0, 100],
