@@ -14,7 +14,7 @@ SCOPE = re.compile(r'''
     \bmod \s+ (?P<mod>\w+) \s* (?=\{)
   | \bimpl\b (?P<impl>[^{;]*) (?=\{)
   | (?<![\w.]) (?P<seen> pub (?:\s*\([^)]*\))? \s+)?
-    (?: (?P<fn> (?:(?:const|unsafe|extern)\s+)* fn) | (?P<item> struct|enum|const|static|type|mod (?!\s+\w+\s*\{)) ) \s+ (?P<name>\w+)
+    (?: (?P<fn> (?:(?:const|unsafe|extern)\s+)* fn) | (?P<item> struct|enum|trait|const|static|type|mod (?!\s+\w+\s*\{)) ) \s+ (?P<name>\w+)
 ''', re.X)
 CLAUSE = re.compile(r'\s*(?P<kind>[a-z]+)\*?(?:\s+\w+:?)?\s*(?=\{)')
 CLAUSES = ('ghost', 'requires', 'ensures', 'measure')

@@ -64,7 +64,7 @@ fn add(kept: &mut [u8], lent: &Lent<'_>, q: Point) -> Result<u32, Refusal>
     ensures { add_out (given_of result) kept.new ≡ add_of (lent_of lent.now) kept.old q }
 {
     let sight = looking::look_at(lent, q)?;
-    keeping::add(kept, sight.is_some(), q)
+    keeping::add(kept, Ok(()), sight.is_some(), q)
 }
 
 // The elevation at a gauge.
@@ -93,7 +93,7 @@ fn update(kept: &mut [u8], lent: &Lent<'_>, step: u32) -> Asked
     let count = ps.count;
     let seen = looking::look(lent, ps)?;
     let inside = all_on(&seen.triangle, lent.tri.len() / 2 / 3, count);
-    keeping::update(kept, inside, &seen.level, step)
+    keeping::update(kept, Ok(()), inside, &seen.level, step)
 }
 
 // What a record has of a gauge.

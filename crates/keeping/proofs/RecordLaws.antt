@@ -9,14 +9,21 @@ use borrow.Author.Tests.{eqb-true, leb-true, eq-eqb, ne_eqb, le-leb, lt-leb}
 use lib.Dec.{eqb, leb}
 use lib.ListN.{length}
 use lib.Ieee.{Float}
+use Rattle.std.specs.Prelude.{Result, Err}
+use Rattle.std.specs.Result.{IsErrAnd}
+use Rattle.std.proofs.lemmas.Result.{err_from_is_err_and}
+use Rattle.rows.specs.declared.Refusal.{Refusal}
 use Rattle.rows.specs.declared.Answer.{Answer}
-use Rattle.rows.specs.Scan.{refused, row, ◌then◌, scan}
+use Rattle.rows.specs.Refusals.{said}
+use Rattle.rows.specs.Says.{SaysOf}
+use Rattle.rows.specs.Scan.{accepted, refused, row, ◌then◌, scan}
 use Rattle.rows.proofs.ScanLaws.{row_fails, row_holds, row_passed, then_stop, then_next, then_first, same_number, other_number, both_left, both_right}
+use Rattle.rows.proofs.RefusalLaws.{refuses_by}
 use Rattle.crossing.proofs.CrossLaws.{written_length}
 use Rattle.location.specs.declared.seeking.Point.{Point}
 use Rattle.location.specs.Survey.{most}
 use Rattle.keeping.specs.Record.{Field, peak_field, step_field, place_of, with_field, record_bytes, field_in, seen_field, count_in, mark_in, with_mark, added, keeps, noted, all_noted, row43}
-use Rattle.keeping.specs.Keeping.{if_accepted, add_out, add_answer, add_of, update_out, update_of}
+use Rattle.keeping.specs.Keeping.{if_accepted, given_by, add_out, add_answer, add_of, update_out, update_of}
 
 -- ---- row 43
 module _ (b : List ℕ) where
@@ -118,14 +125,36 @@ module _ (asked : Answer) (inside : Bool) (q : Point) (b : List ℕ) {a : Answer
   unfolding add_of
   add_accepted h n l = λ i. add_out (record { answer = e i; gauge = if_accepted_lem e (count_in b) 0 h n i }) (if_accepted_lem e (added q b) b h l i)
 
+-- what the call tests before accepts, and so do the record's rows behind it
+pub add_went : (asked : Answer) (inside : Bool) (q : Point) (b : List ℕ) {g : ℕ} {left : List ℕ} → accepted ≡ asked → accepted ≡ add_answer accepted inside b → g ≡ count_in b
+    → left ≡ added q b → add_out (record { answer = accepted; gauge = g }) left ≡ add_of asked inside q b
+add_went asked inside q b before it n l = add_accepted asked inside q b (it ∙ ap (λ (a : Answer). add_answer a inside b) before) refl n l
+
+-- by what `?` hands back in place of a number: what the call tests before, or what the record's rows say behind it
+module _ {E : Type 0} {made : Refusal → E → Type 0} {says : E → Answer} (law : SaysOf made says) (asked : Answer) (inside : Bool) (q : Point) (b : List ℕ) where
+  pub add_stopped : (r : Result ℕ E) (e : E) → IsErrAnd r (λ y. y ≡ e) → says e ≡ asked → add_out (given_by says r) b ≡ add_of asked inside q b
+  unfolding add_answer
+  add_stopped r e h it =
+      let p = err_from_is_err_and r h in
+      ap (λ (v : Result ℕ E). add_out (given_by says v) b) (p.1 ∙ ap Err p.2)
+      ∙ add_refused asked inside q b (it ∙ sym (then_stop asked _ (refuses_by law e it))) (law.refuses e)
+
+  pub add_turned : (r : Result ℕ E) (x : Refusal) → IsErrAnd r (made x) → accepted ≡ asked → said x ≡ add_answer accepted inside b
+      → add_out (given_by says r) b ≡ add_of asked inside q b
+  add_turned r x h before it =
+      let p = err_from_is_err_and r h in
+      ap (λ (v : Result ℕ E). add_out (given_by says v) b) p.1
+      ∙ add_refused asked inside q b (law.refusal x p.0 p.2 ∙ it ∙ ap (λ (a : Answer). add_answer a inside b) before) (law.refuses p.0)
+
 module _ (asked also : Answer) (level : ℕ → Float) (step : ℕ) (b : List ℕ) {a : Answer} (e : a ≡ (asked then row43 b then also)) where
   pub update_refused : (a.number ≡ 0 → ⊥) → update_out a b ≡ update_of asked also level step b
   unfolding update_of
   update_refused h = λ i. update_out (e i) (if_refused e (all_noted level step (count_in b) b) b h i)
 
-  pub update_accepted : {left : List ℕ} → a.number ≡ 0 → left ≡ all_noted level step (count_in b) b → update_out a left ≡ update_of asked also level step b
+  pub update_accepted : {n : ℕ} {left : List ℕ} → a.number ≡ 0 → n ≡ count_in b → left ≡ all_noted level step n b → update_out a left ≡ update_of asked also level step b
   unfolding update_of
-  update_accepted h l = λ i. update_out (e i) (if_accepted_lem e (all_noted level step (count_in b) b) b h l i)
+  update_accepted h k l =
+      λ i. update_out (e i) (if_accepted_lem e (all_noted level step (count_in b) b) b h (l ∙ ap (λ (n : ℕ). all_noted level step n b) k) i)
 
 -- ---- what is done with a record goes by the answer alone
 pub add_same : (asked other : Answer) (inside found : Bool) (q : Point) (b : List ℕ) → add_answer asked inside b ≡ add_answer other found b

@@ -3,7 +3,7 @@ use Rattle.std.specs.Prelude.{ℕ, Bool, cond, List, Result, Ok, Err, eqb, Float
 use Rattle.rows.specs.declared.Answer.{Answer}
 use Rattle.rows.specs.declared.Refusal.{Refusal}
 use Rattle.rows.specs.Scan.{accepted, row, ◌then◌}
-use Rattle.rows.specs.Refusals.{answered}
+use Rattle.rows.specs.Refusals.{said}
 use Rattle.location.specs.declared.seeking.Point.{Point}
 use Rattle.keeping.specs.Record.{count_in, added, all_noted, row43, row41, row42}
 
@@ -20,9 +20,13 @@ pub record Given : Type 0 where
   pub answer : Answer
   pub gauge : ℕ
 
+-- says: what an error says, be it a refusal of the table or another
+abbrev pub given_by : {E : Type 0} → (E → Answer) → Result ℕ E → Given
+given_by says (Ok g) = record { answer = accepted; gauge = g }
+given_by says (Err e) = record { answer = says e; gauge = 0 }
+
 abbrev pub given_of : Result ℕ Refusal → Given
-given_of (Ok g) = record { answer = accepted; gauge = g }
-given_of (Err r) = record { answer = answered (Err r); gauge = 0 }
+given_of given = given_by said given
 
 pub record AddOut : Type 0 where
   pub given : Given

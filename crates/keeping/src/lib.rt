@@ -4,13 +4,13 @@
 ghost use Rattle.std.specs.Prelude.{◌≡◌, ◌+◌, ◌*◌, ◌^◌, ◌<◌, ◌≤◌, get_or};
 ghost use Rattle.std.specs.Float.{nan};
 ghost use Rattle.rows.specs.Scan.{accepted};
-ghost use Rattle.rows.specs.Refusals.{answered};
+ghost use Rattle.rows.specs.Refusals.{answered_by, answered};
 ghost use Rattle.keeping.specs.Record.{row_bytes, field, place_of, field_in, seen_field, with_field, count_in, point_in, points_in, mark_in, with_mark, with_point, added, noted, all_noted, row43, keeps};
-ghost use Rattle.keeping.specs.Keeping.{number_rows, given_of, add_out, add_answer, add_of, update_out, update_of};
+ghost use Rattle.keeping.specs.Keeping.{number_rows, given_by, add_out, add_answer, add_of, update_out, update_of};
 
 use location::Points;
 use location::seeking::Point;
-use rows::{Asked, Refusal, Row};
+use rows::{Asked, Row, Says};
 
 // The layout: the count, then a row for each gauge.
 const RECORD_BYTES: usize = 1345;
@@ -198,10 +198,11 @@ fn put_gauge(kept: &mut [u8], q: Point)
     crossing::put_number(kept, 0, 1, g as u64 + 1);
 }
 
-// Adds a gauge at a point, and gives out its number. `inside`: whether some triangle contains the point.
-pub fn add(kept: &mut [u8], inside: bool, q: Point) -> Result<u32, Refusal>
-    ensures { add_out (given_of result) kept.new ≡ add_of accepted inside q kept.old }
+// Adds a gauge at a point, after what the call tests before, and gives out its number. `inside`: whether some triangle contains the point.
+pub fn add<E: Says>(kept: &mut [u8], asked: Result<(), E>, inside: bool, q: Point) -> Result<u32, E>
+    ensures { add_out (given_by E.says result) kept.new ≡ add_of (answered_by E.says asked) inside q kept.old }
 {
+    asked?;
     add_rows(kept, inside)?;
     let gauge = count(kept);
     put_gauge(kept, q);
@@ -241,12 +242,67 @@ fn note_all(kept: &mut [u8], count: usize, level: &[f64; 64], step: u32)
     }
 }
 
-// Hands an elevation to every gauge, after row 43 and what else the call tests.
-pub fn update(kept: &mut [u8], also: Asked, level: &[f64; 64], step: u32) -> Asked
-    ensures { update_out (answered result) kept.new ≡ update_of accepted (answered also) (λ g. get_or level.now g nan) step kept.old }
+// Hands an elevation to every gauge, after what the call tests before row 43 and after it.
+pub fn update<E: Says>(
+    kept: &mut [u8],
+    asked: Result<(), E>,
+    also: Result<(), E>,
+    level: &[f64; 64],
+    step: u32,
+) -> Result<(), E>
+    ensures { update_out (answered_by E.says result) kept.new ≡ update_of (answered_by E.says asked) (answered_by E.says also) (λ g. get_or level.now g nan) step kept.old }
 {
+    asked?;
     record_rows(kept)?;
     also?;
     note_all(kept, count(kept) as usize, level, step);
     Ok(())
+}
+
+#[cfg(test)]
+mod tests {
+    use super::{Point, add, update};
+    use rows::{Answer, answers};
+
+    // A number of an answer is below 2^32.
+    fn fits(number: u32)
+        ensures { number < 4294967296 }
+    {}
+
+    // With answers before and after row 43, of any number, and an answer back. An accepted call answers what it asked last.
+    fn update_answer(
+        kept: &mut [u8],
+        asked: Answer,
+        also: Answer,
+        level: &[f64; 64],
+        step: u32,
+    ) -> Answer
+        ensures { update_out result kept.new ≡ update_of asked also (λ g. get_or level.now g nan) step kept.old }
+    {
+        fits(asked.number);
+        fits(also.number);
+        let before = answers::asked(asked);
+        let behind = answers::asked(also);
+        match update(kept, before, behind, level, step) {
+            Ok(()) => also,
+            Err(answer) => answer,
+        }
+    }
+
+    // An answer that no row gives, asked before row 43 or after it, is handed on as it is.
+    #[test]
+    fn any_answer_is_handed_on(rt: HostRuntime) {
+        let other = answers::refuse(99, 7);
+        let passed = answers::refuse(0, 5);
+        let mut kept = [0; 1345];
+        let added = add(&mut kept, answers::asked(other), true, Point { x: 0, y: 0 });
+        let add_answer = added.err().unwrap_or(answers::accept());
+        let before = update_answer(&mut kept, other, passed, &[0.0; 64], 1);
+        let also = update_answer(&mut kept, passed, other, &[0.0; 64], 1);
+        for answer in [add_answer, before, also] {
+            assert_eq!(rt; (answer.number, answer.place), (99, 7));
+        }
+        let all = update_answer(&mut kept, passed, passed, &[0.0; 64], 1);
+        assert_eq!(rt; (all.number, all.place), (0, 5));
+    }
 }

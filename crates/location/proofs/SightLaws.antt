@@ -4,7 +4,6 @@ use lib.Ieee.{Float}
 use Rattle.std.specs.Result.{IsErrAnd}
 use Rattle.std.proofs.lemmas.Result.{err_from_is_err_and}
 use Rattle.rows.specs.declared.Answer.{Answer}
-use Rattle.rows.specs.declared.Refusal.{Refusal}
 use Rattle.rows.specs.Numbers.{plus0}
 use Rattle.quantities.specs.declared.Parameters.{Parameters}
 use Rattle.mesh.specs.Lent.{Mesh, corners}
@@ -18,7 +17,7 @@ use Rattle.location.specs.Private.{where_inside}
 use Rattle.location.proofs.LowestLaws.{lowest_most, lowest_none}
 
 -- ---- a refusal that `?` hands back
-pub handed_back : {A : Type 0} (q : Result A Refusal) (x : Refusal) → IsErrAnd q (λ y. y ≡ x) → q ≡ Err x
+pub handed_back : {A E : Type 0} (q : Result A E) (x : E) → IsErrAnd q (λ y. y ≡ x) → q ≡ Err x
 handed_back q x e = let p = err_from_is_err_and q e in p.1 ∙ ap Err p.2
 
 -- ---- what is found where some triangle contains a point

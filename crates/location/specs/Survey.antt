@@ -4,7 +4,7 @@ use Rattle.rows.specs.declared.Answer.{Answer}
 use Rattle.rows.specs.declared.Refusal.{Refusal}
 use Rattle.rows.specs.Numbers.{plus0}
 use Rattle.rows.specs.Scan.{accepted}
-use Rattle.rows.specs.Refusals.{answered}
+use Rattle.rows.specs.Refusals.{said}
 use Rattle.lists.specs.Table.{table}
 use Rattle.lists.specs.Runs.{in_run}
 use Rattle.quantities.specs.declared.Parameters.{Parameters}
@@ -52,10 +52,13 @@ seen a m state ps = record {
 unfoldable pub unseen : Answer → Sightings
 unseen a = record { answer = a; triangle = table most (λ _. 0); level = table most (λ _. plus0) }
 
--- what a call saw
+-- what a call saw. says: what an error says
+abbrev pub sightings_by : {E : Type 0} → (E → Answer) → Result code.Sightings E → Sightings
+sightings_by says (Ok s) = record { answer = accepted; triangle = s.triangle; level = s.level }
+sightings_by says (Err e) = unseen (says e)
+
 abbrev pub sightings_of : Result code.Sightings Refusal → Sightings
-sightings_of (Ok s) = record { answer = accepted; triangle = s.triangle; level = s.level }
-sightings_of (Err r) = unseen (answered (Err r))
+sightings_of seen = sightings_by said seen
 
 -- asked: what the call tests before rows 1 to 10
 unfoldable pub survey_of : Answer → Mesh → Parameters → List Float → Points → Sightings

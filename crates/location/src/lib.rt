@@ -5,15 +5,15 @@ pub mod seeking;
 
 ghost use Rattle.std.specs.Prelude.{◌≡◌, ◌*◌, Ok, length};
 ghost use Rattle.rows.specs.Scan.{accepted};
-ghost use Rattle.rows.specs.Refusals.{answered};
+ghost use Rattle.rows.specs.Refusals.{answered_by};
 ghost use Rattle.mesh.specs.Lent.{N, mesh_of};
 ghost use Rattle.mesh.specs.Private.{Shaped};
 ghost use Rattle.bounds.specs.State.{state_runs};
-ghost use Rattle.location.specs.Survey.{sightings_of, seen, survey_of};
+ghost use Rattle.location.specs.Survey.{sightings_of, sightings_by, seen, survey_of};
 
 use mesh::Mesh;
 use quantities::Parameters;
-use rows::{Asked, Refusal};
+use rows::Says;
 use seeking::{Point, Sighting};
 
 // The points of at most 64 gauges: the first `count` of them.
@@ -55,15 +55,48 @@ fn at_points(ps: Points, m: &Mesh<'_>, state: &[f64]) -> Sightings
 }
 
 // What the call tests before, rows 1 to 10, and where they accept what is seen at the points.
-pub fn survey(
-    asked: Asked,
+pub fn survey<E: Says>(
+    asked: Result<(), E>,
     ps: Points,
     m: &Mesh<'_>,
     p: Parameters,
     state: &[f64],
-) -> Result<Sightings, Refusal>
-    ensures { sightings_of result ≡ survey_of (answered asked) (mesh_of m.now) p state.now ps }
+) -> Result<Sightings, E>
+    ensures { sightings_by E.says result ≡ survey_of (answered_by E.says asked) (mesh_of m.now) p state.now ps }
 {
     bounds::run_rows(asked, m, p, state)?;
     Ok(at_points(ps, m, state))
+}
+
+#[cfg(test)]
+mod tests {
+    use super::{Mesh, Parameters, Points, survey};
+    use rows::answers;
+
+    // An answer that no row gives, asked before, is handed on as it is.
+    #[test]
+    fn any_answer_is_handed_on(rt: HostRuntime) {
+        let none = Mesh {
+            x: &[],
+            y: &[],
+            tri: &[],
+            h: &[],
+            kind: &[],
+        };
+        let p = Parameters {
+            dt: 1.0,
+            tau: 0.01,
+            k: 0.0,
+            f: 0.0,
+            advection: false,
+        };
+        let ps = Points {
+            count: 0,
+            x: [0; 64],
+            y: [0; 64],
+        };
+        let asked = survey(answers::asked(answers::refuse(99, 7)), ps, &none, p, &[]);
+        let answer = asked.err().unwrap_or(answers::accept());
+        assert_eq!(rt; (answer.number, answer.place), (99, 7));
+    }
 }

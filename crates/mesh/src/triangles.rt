@@ -40,8 +40,7 @@ fn shape(m: &Mesh<'_>, t: usize) -> Asked
     rows::tested(0 < geometry::twice_area(s), Row::Area, t)
 }
 
-// Triangle by triangle rows 3, 4 and 5. The mesh is bound before the loop, so that the compiler keeps its slices in registers and makes the loop's test of t the
-// only one.
+// Triangle by triangle rows 3, 4 and 5. The mesh is bound before the loop, so that the compiler keeps its slices in registers.
 pub(crate) fn shapes(m: &Mesh<'_>) -> Asked
     requires { length m.now.y.now ≡ length m.now.x.now }
     ensures { answered result ≡ scan (triangle_rows m.now.x.now m.now.y.now m.now.tri.now) (length m.now.tri.now / 3) }

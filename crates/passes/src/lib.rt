@@ -10,7 +10,7 @@ pub(crate) mod velocities;
 pub(crate) mod working;
 
 ghost use Rattle.std.specs.Prelude.{◌≡◌, cond, is_ok, ◌&&◌, ◌+◌, ◌-◌, ◌*◌, ◌/◌, ◌<◌, ◌≤◌, length};
-ghost use Rattle.rows.specs.Refusals.{answered};
+ghost use Rattle.rows.specs.Refusals.{answered_by, answered};
 ghost use Rattle.rows.specs.Scan.{accepted, row};
 ghost use Rattle.lists.specs.Table.{table, zeros};
 ghost use Rattle.lists.specs.Runs.{is_runs};
@@ -26,7 +26,7 @@ use bounds::{STATE_RUNS, WIND_RUNS};
 use lists::slices;
 use mesh::Mesh;
 use quantities::Parameters;
-use rows::{Asked, Row};
+use rows::{Asked, Row, Says};
 use state::Given;
 
 // The runs of a work room: R and then z', Px and then U', Py and then V', Au, Av.
@@ -55,7 +55,7 @@ fn rooms_row(next: usize, work: usize, sums: usize, runs: usize, n: usize) -> As
 
 // What a call on a run tests, then what else was tested and row 12 of the forcing, then row 13 and the next state in `next`. A refusal before 13 leaves
 // all as found; 13 leaves the work room zero.
-pub fn settle(
+pub fn settle<E: Says>(
     next: &mut [f64],
     work: &mut [f64],
     sums: &mut [u64],
@@ -63,12 +63,12 @@ pub fn settle(
     p: Parameters,
     state: &[f64],
     f: &[f64],
-    also: Asked,
-) -> Asked
-    ensures { settled (answered result) next.new work.new sums.new ≡ settle_of (mesh_of m.now) p state.now f.now (answered also) (lent_rooms next.old work.old sums.old) }
+    also: Result<(), E>,
+) -> Result<(), E>
+    ensures { settled (answered_by E.says result) next.new work.new sums.new ≡ settle_of (mesh_of m.now) p state.now f.now (answered_by E.says also) (lent_rooms next.old work.old sums.old) }
 {
     let rooms = rooms_row(next.len(), work.len(), sums.len(), WORK_RUNS, m.x.len());
-    bounds::forced_rows(rooms, m, p, state, also, f)?;
+    bounds::forced_rows(rows::first(Ok(()), rooms), m, p, state, also, f)?;
     let g = Given {
         mesh: *m,
         p,
@@ -76,7 +76,8 @@ pub fn settle(
         elevation: f[0],
         winds: &f[1..],
     };
-    working::work_out(next, work, sums, &g)
+    working::work_out(next, work, sums, &g)?;
+    Ok(())
 }
 
 // No step was accepted.
@@ -200,4 +201,39 @@ pub fn settle_all(
         return unmoved(first, step);
     }
     rest_of(next, work, sums, m, p, list, step)
+}
+
+#[cfg(test)]
+mod tests {
+    use super::{Mesh, Parameters, settle};
+    use rows::answers;
+
+    // An answer that no row gives, asked among the rows, is handed on as it is, before row 12.
+    #[test]
+    fn any_answer_is_handed_on(rt: HostRuntime) {
+        let m = Mesh {
+            x: &[0, 100, 0],
+            y: &[0, 0, 100],
+            tri: &[0, 1, 2],
+            h: &[5.0; 3],
+            kind: &[0; 3],
+        };
+        let p = Parameters {
+            dt: 1.0,
+            tau: 0.01,
+            k: 0.0,
+            f: 0.0,
+            advection: false,
+        };
+        let also = answers::asked(answers::refuse(99, 7));
+        let mut next = [0.0; 18];
+        let mut work = [0.0; 15];
+        let mut sums = [0; 3];
+        let state = [0.0; 18];
+        let asked = settle(
+            &mut next, &mut work, &mut sums, &m, p, &state, &[99.0; 7], also,
+        );
+        let answer = asked.err().unwrap_or(answers::accept());
+        assert_eq!(rt; (answer.number, answer.place), (99, 7));
+    }
 }

@@ -1,12 +1,12 @@
 -- Laws of `row`, `_then_`, `scan` and `some`, which the proof of each row cites.
 use Prim.Native.Nat.{ℕ, zero, suc, ◌+◌, ◌<◌}
-use mathlib.Core.Path.{◌≡◌, refl, sym, ap, ◌∙◌}
+use mathlib.Core.Path.{◌≡◌, refl, sym, ap, subst, ◌∙◌}
 use mathlib.Core.Bool.{Bool, true, false, ◌||◌, ◌&&◌}
 use mathlib.Core.Logic.{⊎_elim}
 use native.Mathlib.Nat.{not-suc-le-zero, le_of_suc-le-suc, eq-or-lt_of_le}
 use native.Mathlib.Numerals.{add-one}
 use native.Mathlib.Omega.{arith}
-use borrow.Author.Tests.{eqb-true, eq-eqb, ne_eqb}
+use borrow.Author.Tests.{eqb-true, eqb-false, eq-eqb, ne_eqb}
 use lib.Dec.{eqb}
 use Rattle.rows.specs.declared.Answer.{Answer}
 use Rattle.rows.specs.Scan.{accepted, refused, row, ◌then◌, scan, some}
@@ -197,3 +197,16 @@ then_assoc a b c = go a.number refl
     go (suc n) e =
         let r : a.number ≡ 0 → ⊥ = λ z. absurd (omega (arith, e, z)) in
         ap (λ (x : Answer). x then c) (then_stop a b r) ∙ then_stop a c r ∙ sym (then_stop a (b then c) r)
+
+-- ---- the number of an answer is below what those of its rows are below
+pub then_below : (n : ℕ) (a b : Answer) → a.number < n → b.number < n → (a then b).number < n
+then_below n a b k l = go (eqb a.number 0) refl
+  where
+    go : (z : Bool) → eqb a.number 0 ≡ z → (a then b).number < n
+    go true z = subst (λ (x : Answer). x.number < n) (sym (then_next a b (eqb-true a.number 0 z))) l
+    go false z = subst (λ (x : Answer). x.number < n) (sym (then_stop a b (eqb-false a.number 0 z))) k
+
+pub row_below : (n : ℕ) (b : Bool) (number place : ℕ) → 0 < n → number < n → (row b number place).number < n
+unfolding row
+row_below n true number place k l = k
+row_below n false number place k l = l

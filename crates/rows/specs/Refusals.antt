@@ -36,7 +36,14 @@ number_of FullRecord = 41
 number_of GaugeNumber = 42
 number_of Record = 43
 
--- "Each answer has number, place and value", "An accepted call has number 0 and place 0"
+-- "Each answer has number, place and value": what a refusal says
+abbrev pub said : Refusal → Answer
+said r = record { number = number_of r.row; place = r.place; value = r.value }
+
+-- "An accepted call has number 0 and place 0". says: what an error says, be it a refusal of the table or another
+abbrev pub answered_by : {E : Type 0} → (E → Answer) → Result (Unit {0}) E → Answer
+answered_by says (Ok _) = accepted
+answered_by says (Err e) = says e
+
 abbrev pub answered : Result (Unit {0}) Refusal → Answer
-answered (Ok _) = accepted
-answered (Err r) = record { number = number_of r.row; place = r.place; value = r.value }
+answered asked = answered_by said asked

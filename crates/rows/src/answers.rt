@@ -1,9 +1,11 @@
 // Answers as they cross to C, on any number and any answer: what a row answers, and the first of two.
-ghost use Rattle.std.specs.Prelude.{◌≡◌};
+ghost use Rattle.std.specs.Prelude.{◌≡◌, Ok, Err, cond, eqb};
 ghost use Rattle.rows.specs.Scan.{accepted, refused, row, ◌then◌};
-ghost use Rattle.rows.specs.Refusals.{answered};
+ghost use Rattle.rows.specs.Refusals.{said, answered};
+ghost use Rattle.rows.specs.Says.{itself};
+ghost use Rattle.rows.specs.SaysLaws.{answers_say};
 
-use crate::{Answer, Asked};
+use crate::{Answer, Asked, Refusal, Says};
 
 pub fn accept() -> Answer
     ensures { result ≡ accepted }
@@ -39,16 +41,37 @@ pub fn first(a: Answer, b: Answer) -> Answer
     if a.number == 0 { b } else { a }
 }
 
+// What an answer is as what a call asked before: one that accepts goes on, and one that refuses is handed on as it is.
+pub fn asked(a: Answer) -> Result<(), Answer>
+    ensures { result ≡ cond (eqb a.number 0) (Ok tt) (Err a) }
+{
+    if a.number == 0 { Ok(()) } else { Err(a) }
+}
+
+impl From<Refusal> for Answer {
+    ghost from_gives = { λ refusal answer. answer ≡ said refusal };
+
+    fn from(refusal: Refusal) -> Answer {
+        Answer {
+            value: refusal.value,
+            ..refuse(refusal.row.number(), refusal.place)
+        }
+    }
+}
+
+impl Says for Answer {
+    ghost says = { itself };
+
+    ghost laws = { answers_say };
+}
+
 impl From<Asked> for Answer {
     ghost from_gives = { λ asked answer. answer ≡ answered asked };
 
     fn from(asked: Asked) -> Answer {
         match asked {
             Ok(()) => accept(),
-            Err(refusal) => Answer {
-                value: refusal.value,
-                ..refuse(refusal.row.number(), refusal.place)
-            },
+            Err(refusal) => Answer::from(refusal),
         }
     }
 }

@@ -7,7 +7,9 @@ ghost use Rattle.std.specs.Prelude.{◌≡◌, ℕ, ◌<◌};
 ghost use Rattle.rows.specs.Numbers.{within};
 ghost use Rattle.rows.specs.declared.Answer.{Answer};
 ghost use Rattle.rows.specs.Scan.{refused, row, ◌then◌, scan};
-ghost use Rattle.rows.specs.Refusals.{number_of, answered};
+ghost use Rattle.rows.specs.Refusals.{number_of, said, answered_by, answered};
+ghost use Rattle.rows.specs.Says.{SaysOf};
+ghost use Rattle.rows.specs.SaysLaws.{refusals_say};
 
 // The rows of the refusal table, each by what it refuses.
 #[derive(Clone, Copy, Debug, PartialEq, Eq)]
@@ -89,6 +91,20 @@ pub struct Refusal {
 // What a row answers, and a call that gives nothing else back.
 pub type Asked = Result<(), Refusal>;
 
+// What a call hands back where it refuses: the table's refusals, or a caller's own that stand beside them.
+pub trait Says: From<Refusal> + Copy {
+    // the number, place and value that one says
+    ghost says: { Self → Answer };
+
+    ghost laws: { SaysOf Self.from_gives says };
+}
+
+impl Says for Refusal {
+    ghost says = { said };
+
+    ghost laws = { refusals_say };
+}
+
 // An answer as it crosses to C: number, place and value. Number 0 accepts.
 #[derive(Clone, Copy)]
 pub struct Answer {
@@ -116,10 +132,12 @@ pub fn tested(holds: bool, of: Row, place: usize) -> Asked
 }
 
 // The first of two answers that refuses.
-pub fn first(a: Asked, b: Asked) -> Asked
-    ensures { answered result ≡ (answered a then answered b) }
+pub fn first<E: Says>(a: Result<(), E>, b: Asked) -> Result<(), E>
+    ensures { answered_by E.says result ≡ (answered_by E.says a then answered b) }
 {
-    a.and(b)
+    a?;
+    b?;
+    Ok(())
 }
 
 // "the first place in each": what the first of n places answers at which `ask` refuses.

@@ -1,11 +1,12 @@
 -- Each public function's own contract has at most one outcome, and the calls ask nothing of their caller.
 use mathlib.Core.Path.{◌≡◌, refl, sym, ap, ◌∙◌}
-use Rattle.rows.proofs.RefusalLaws.{answered_same}
+use Rattle.rows.proofs.RefusalLaws.{answered_one, answered_same}
 use Rattle.editions.proofs.LineLaws.{lines_apart}
 use Rattle.statements.proofs.KindLaws.{kind_same}
 use Rattle.statements.proofs.ResultLaws.{survey_same, found_same, given_same, replied_same, saved_same, took_same}
 use Rattle.lines.specs.Building.{Put, put_out}
-use Rattle.rows.specs.Refusals.{answered}
+use Rattle.rows.specs.Refusals.{answered_by, answered}
+use Rattle.rows.specs.SaysLaws.{refusals_say}
 use Rattle.surge.specs.Lent.{cold_clock, replied, After, after}
 use Rattle.passes.specs.Settle.{Settled, settled}
 use Rattle.passes.specs.InTurn.{Turns}
@@ -17,11 +18,11 @@ use Rattle.saves.specs.Save.{SaveOut, saved, save_out}
 use Rattle.grids.specs.Grid.{grid, ReadOut, read_out}
 use Rattle.forcings.specs.Forcings.{Taken, taken}
 use Rattle.looking.specs.Lent.{lent_of}
-use Rattle.keeping.specs.Keeping.{given_of, AddOut, add_out, UpdateOut, update_out}
+use Rattle.keeping.specs.Keeping.{given_by, given_of, AddOut, add_out, UpdateOut, update_out}
 use Rattle.gauges.specs.Calls as G
 use Rattle.gauges.specs.Calls.{given, mark, Located, located, Measured, measured, Peaked, peaked}
 use Rattle.capi.specs.Numbers.{clock, answer, reply, list_reply}
-use Rattle.statements.specs.Determined.{EachDetermined, EachDeterminedByItsClosure, EachCallAsksNothing}
+use Rattle.statements.specs.Determined.{EachDetermined, EachDeterminedByItsClosure, EachDeterminedByItsErrors, EachCallAsksNothing}
 
 -- the one law: two values that equal a third are equal
 same : {A : Type 0} {x y z : A} → x ≡ z → y ≡ z → x ≡ y
@@ -33,10 +34,11 @@ each_determined = record {
   rows_answers_refuse_determined = λ κs a g x y v w p q. (same p q, refl);
   rows_answers_tested_determined = λ κs a g x y v w p q. (same p q, refl);
   rows_answers_first_determined = λ κs a g x y v w p q. (same p q, refl);
+  rows_answers_asked_determined = λ κs a g x y v w p q. (same p q, refl);
   rows_row_number_determined = λ κs a g x y v w p q. (same p q, refl);
   rows_refuse_determined = λ κs a g x y v w p q. (answered_same x y (same p q), refl);
   rows_tested_determined = λ κs a g x y v w p q. (answered_same x y (same p q), refl);
-  rows_first_determined = λ κs a g x y v w p q. (answered_same x y (same p q), refl);
+  rows_first_determined = λ c d e κs a g x y v w p q. (answered_same x y (same p q), refl);
   rows_in_range_determined = λ κs a g x y v w p q. (same p q, refl);
   lists_slices_is_runs_determined = λ κs a g x y v w p q. (same p q, refl);
   lists_slices_clear_determined = λ κs a g x y v w p q. (refl, λ i. (same p q i, tt));
@@ -91,29 +93,29 @@ each_determined = record {
   mesh_reading_corners_at_determined = λ κs a g x y v w p q. (same p q, refl);
   mesh_reading_corners_of_determined = λ κs a g x y v w p q. (same p q, refl);
   mesh_reading_places_at_determined = λ κs a g x y v w p q. (same p q, refl);
-  mesh_size_rows_determined = λ κs a g x y v w p q. (answered_same x y (same p q), refl);
-  mesh_shape_rows_determined = λ κs a g x y v w p q. (answered_same x y (same p q), refl);
+  mesh_size_rows_determined = λ c d e κs a g x y v w p q. (answered_same x y (same p q), refl);
+  mesh_shape_rows_determined = λ c d e κs a g x y v w p q. (answered_same x y (same p q), refl);
   legs_leg_rows_determined = λ κs a g x y v w p q. (answered_same x y (same p q), refl);
   areas_twice_areas_determined = λ κs a g x y v w p q. (same p q, refl);
-  nodes_mesh_rows_determined = λ κs a g x y v w p q. (answered_same x y (same p q), refl);
-  nodes_open_rows_determined = λ κs a g x y v w p q. (answered_same x y (same p q), refl);
-  bounds_run_rows_determined = λ κs a g x y v w p q. (answered_same x y (same p q), refl);
-  bounds_forced_rows_determined = λ κs a g x y v w p q. (answered_same x y (same p q), refl);
+  nodes_mesh_rows_determined = λ c d e κs a g x y v w p q. (answered_same x y (same p q), refl);
+  nodes_open_rows_determined = λ c d e κs a g x y v w p q. (answered_same x y (same p q), refl);
+  bounds_run_rows_determined = λ c d e κs a g x y v w p q. (answered_same x y (same p q), refl);
+  bounds_forced_rows_determined = λ c d e κs a g x y v w p q. (answered_same x y (same p q), refl);
   bounds_weather_rows_determined = λ κs a g x y v w p q. (answered_same x y (same p q), refl);
-  bounds_list_rows_determined = λ κs a g x y v w p q. (answered_same x y (same p q), refl);
-  location_survey_determined = λ κs a g x y v w p q. (survey_same x y (same p q), refl);
-  looking_look_determined = λ κs a g x y v w p q. (survey_same x y (same p q), refl);
+  bounds_list_rows_determined = λ c d e κs a g x y v w p q. (answered_same x y (same p q), refl);
+  location_survey_determined = λ c d e κs a g x y v w p q. (survey_same refusals_say x y (same p q), refl);
+  looking_look_determined = λ κs a g x y v w p q. (survey_same refusals_say x y (same p q), refl);
   looking_look_at_determined = λ κs (lent, (point, _)) g x y v w p q. (found_same (lent_of lent.now) x y (same p q), refl);
   keeping_point_at_determined = λ κs a g x y v w p q. (same p q, refl);
   keeping_mark_at_determined = λ κs a g x y v w p q. (same p q, refl);
   keeping_points_determined = λ κs a g x y v w p q. (same p q, refl);
   keeping_number_rows_determined = λ κs a g x y v w p q. (answered_same x y (same p q), refl);
-  keeping_add_determined = λ κs a g x y v w p q.
+  keeping_add_determined = λ c d e κs a g x y v w p q.
       let e : add_out (given_of x) v.0 ≡ add_out (given_of y) w.0 = same p q in
-      (given_same x y (ap (λ (o : AddOut). o.given) e), λ i. ((e i).left, (tt, (tt, tt))));
-  keeping_update_determined = λ κs a g x y v w p q.
+      (given_same refusals_say x y (ap (λ (o : AddOut). o.given) e), λ i. ((e i).left, (tt, (tt, (tt, tt)))));
+  keeping_update_determined = λ c d e κs a g x y v w p q.
       let e : update_out (answered x) v.0 ≡ update_out (answered y) w.0 = same p q in
-      (answered_same x y (ap (λ (o : UpdateOut). o.answer) e), λ i. ((e i).left, (tt, (tt, (tt, tt)))));
+      (answered_same x y (ap (λ (o : UpdateOut). o.answer) e), λ i. ((e i).left, (tt, (tt, (tt, (tt, tt))))));
   gauges_gauge_locate_determined = λ κs a g x y v w p q.
       let e : located (G.answer x v.1.0 v.1.1.0) v.0 ≡ located (G.answer y w.1.0 w.1.1.0) w.0 = same p q in (
         ap (λ (o : Located). o.answer.number) e,
@@ -139,7 +141,7 @@ each_determined = record {
         ap (λ (o : Peaked). o.answer.number) e,
         λ i. ((e i).mark.seen, ((e i).mark.peak, ((e i).mark.step, ((e i).answer.place, ((e i).answer.value, (tt, (tt, tt))))))),
       );
-  passes_settle_determined = λ κs a g x y v w p q.
+  passes_settle_determined = λ c d e κs a g x y v w p q.
       let e : settled (answered x) v.0 v.1.0 v.1.1.0 ≡ settled (answered y) w.0 w.1.0 w.1.1.0 = same p q in (
         answered_same x y (ap (λ (o : Settled). o.answer) e),
         λ i. ((e i).rooms.next, ((e i).rooms.work, ((e i).rooms.sums, (tt, (tt, (tt, (tt, (tt, tt)))))))),
@@ -221,6 +223,30 @@ pub each_determined_by_its_closure : EachDeterminedByItsClosure
 each_determined_by_its_closure = record {
   rows_scan_determined = λ F b c m o d f κs a answers g x y v w p q. (answered_same x y (same (p f answers) (q f answers)), refl);
   rows_scan_tests_determined = λ F b c m o d f κs a answers g x y v w p q. (answered_same x y (same (p f answers) (q f answers)), refl);
+}
+
+pub each_determined_by_its_errors : EachDeterminedByItsErrors
+each_determined_by_its_errors = record {
+  rows_first_of_any_determined = λ E s f k c d e law κs a g x y v w p q. (answered_one law x y (same p q), tt);
+  mesh_size_rows_of_any_determined = λ E s f k c d e law κs a g x y v w p q. (answered_one law x y (same p q), tt);
+  mesh_shape_rows_of_any_determined = λ E s f k c d e law κs a g x y v w p q. (answered_one law x y (same p q), tt);
+  nodes_mesh_rows_of_any_determined = λ E s f k c d e law κs a g x y v w p q. (answered_one law x y (same p q), tt);
+  nodes_open_rows_of_any_determined = λ E s f k c d e law κs a g x y v w p q. (answered_one law x y (same p q), tt);
+  bounds_run_rows_of_any_determined = λ E s f k c d e law κs a g x y v w p q. (answered_one law x y (same p q), tt);
+  bounds_forced_rows_of_any_determined = λ E s f k c d e law κs a g x y v w p q. (answered_one law x y (same p q), tt);
+  bounds_list_rows_of_any_determined = λ E s f k c d e law κs a g x y v w p q. (answered_one law x y (same p q), tt);
+  location_survey_of_any_determined = λ E s f k c d e law κs a g x y v w p q. (survey_same law x y (same p q), tt);
+  keeping_add_of_any_determined = λ E s f k c d e law κs a g x y v w p q.
+      let e : add_out (given_by s.says x) v.0 ≡ add_out (given_by s.says y) w.0 = same p q in
+      (given_same law x y (ap (λ (o : AddOut). o.given) e), λ i. (e i).left);
+  keeping_update_of_any_determined = λ E s f k c d e law κs a g x y v w p q.
+      let e : update_out (answered_by s.says x) v.0 ≡ update_out (answered_by s.says y) w.0 = same p q in
+      (answered_one law x y (ap (λ (o : UpdateOut). o.answer) e), λ i. (e i).left);
+  passes_settle_of_any_determined = λ E s f k c d e law κs a g x y v w p q.
+      let e : settled (answered_by s.says x) v.0 v.1.0 v.1.1.0 ≡ settled (answered_by s.says y) w.0 w.1.0 w.1.1.0 = same p q in (
+        answered_one law x y (ap (λ (o : Settled). o.answer) e),
+        (λ i. (e i).rooms.next, λ i. (e i).rooms.work, λ i. (e i).rooms.sums),
+      );
 }
 
 pub each_call_asks_nothing : EachCallAsksNothing

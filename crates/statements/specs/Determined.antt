@@ -1,7 +1,7 @@
 -- "No public function stands without a promise that determines its answer, and every lent slice afterwards, on all inputs. That at most one outcome
 -- satisfies it is proved": said of each public function's own contract, as it is read from the source. tools/promises holds the list to the source: each
 -- field is named by its function's crate and module, and speaks of that function's contract.
-use Rattle.std.specs.Prelude.{ℕ, ◌<◌, ◌≡◌, List}
+use Rattle.std.specs.Prelude.{ℕ, ◌<◌, ◌≡◌, List, ⊤}
 use mir.Syntax.{Dict}
 use denote.RattleType.{RattleType}
 use contract.Lifetimes.{Lfts}
@@ -10,13 +10,21 @@ use denote.Triple.Clauses.{Ended, Clauses, Lasts, at_exit}
 use borrow.Fn.World.{w₀}
 use Rattle.demands.specs.Ensured.{Requires, Ensures, told, says, nothing, 𝓛₀, mem₀, run₀}
 use Rattle.rows.specs.declared.Answer.{Answer}
+use Rattle.rows.specs.declared.Refusal.{Refusal}
 use Rattle.rows.specs.Refusals.{answered}
+use Rattle.rows.specs.Says.{SaysOf}
+use Rattle.rows.specs.declared.Says as Says
+use Rattle.std.specs.declared.convert.From as From
+use Rattle.std.specs.declared.clone.Clone as Clone
+use Rattle.rows.specs.contracts.Refusal.{the_row}
+use Rattle.rows.specs.contracts.RefusalSays.TheImpl as refusal
 use Rattle.rows.specs.contracts.scan.F-Fn as scan_calls
 use Rattle.rows.specs.contracts.scan_tests.F-Fn as scan_tests_calls
 use Rattle.rows.specs.contracts.answers.accept as rows_answers_accept
 use Rattle.rows.specs.contracts.answers.refuse as rows_answers_refuse
 use Rattle.rows.specs.contracts.answers.tested as rows_answers_tested
 use Rattle.rows.specs.contracts.answers.first as rows_answers_first
+use Rattle.rows.specs.contracts.answers.asked as rows_answers_asked
 use Rattle.rows.specs.contracts.Row.number as rows_row_number
 use Rattle.rows.specs.contracts.refuse as rows_refuse
 use Rattle.rows.specs.contracts.tested as rows_tested
@@ -132,15 +140,24 @@ DeterminedSeen T c r seen =
     (κs : Lfts T.signature.lifetimes) (a : Args T.signature κs) (g : (c κs a).ghost) (x y : Res T.signature κs) (v w : Lasts T κs a) →
     told (r κs a g x (at_exit T κs a v)) → told (r κs a g y (at_exit T κs a w)) → (seen κs x ≡ seen κs y) × (v ≡ w)
 
+-- of a function whose refusals are of a type E (rows/specs/Says), at the table's refusals: which are made of a refusal, and which are copies of one. c, d and e
+-- are the code of these bounds and of what E says, of which no clause speaks
+abbrev pub made : From.Ghosts Refusal Refusal
+made = record { from_gives = λ x r. r ≡ x }
+
+abbrev pub alike : Clone.Ghosts Refusal
+alike = record { is_clone = λ r q. q ≡ r; is_infallible = λ r. ⊤ }
+
 pub record EachDetermined : Type 0 where
   pub rows_answers_accept_determined : Determined rows_answers_accept.ended (rows_answers_accept.clauses 𝓛₀ mem₀ run₀) (λ κs a g x s. says _)
   pub rows_answers_refuse_determined : Determined rows_answers_refuse.ended (rows_answers_refuse.clauses 𝓛₀ mem₀ run₀) (λ κs a g x s. says _)
   pub rows_answers_tested_determined : Determined rows_answers_tested.ended (rows_answers_tested.clauses 𝓛₀ mem₀ run₀) (λ κs a g x s. says _)
   pub rows_answers_first_determined : Determined rows_answers_first.ended (rows_answers_first.clauses 𝓛₀ mem₀ run₀) (λ κs a g x s. says _)
+  pub rows_answers_asked_determined : Determined rows_answers_asked.ended (rows_answers_asked.clauses 𝓛₀ mem₀ run₀) (λ κs a g x s. says _)
   pub rows_row_number_determined : Determined rows_row_number.ended (rows_row_number.clauses 𝓛₀ mem₀ run₀) (λ κs a g x s. says _)
   pub rows_refuse_determined : Determined rows_refuse.ended (rows_refuse.clauses 𝓛₀ mem₀ run₀) (λ κs a g x s. says _)
   pub rows_tested_determined : Determined rows_tested.ended (rows_tested.clauses 𝓛₀ mem₀ run₀) (λ κs a g x s. says _)
-  pub rows_first_determined : Determined rows_first.ended (rows_first.clauses 𝓛₀ mem₀ run₀) (λ κs a g x s. says _)
+  pub rows_first_determined : (c d e : Dict) → Determined (rows_first.ended the_row refusal.ghosts c made d alike e) (rows_first.clauses the_row refusal.ghosts c made d alike e 𝓛₀ mem₀ run₀) (λ κs a g x s. says _)
   pub rows_in_range_determined : Determined rows_in_range.ended (rows_in_range.clauses 𝓛₀ mem₀ run₀) (λ κs a g x s. says _)
   pub lists_slices_is_runs_determined : Determined lists_slices_is_runs.ended (lists_slices_is_runs.clauses 𝓛₀ mem₀ run₀) (λ κs a g x s. says _)
   pub lists_slices_clear_determined : Determined lists_slices_clear.ended (lists_slices_clear.clauses 𝓛₀ mem₀ run₀) (λ κs a g x s. says _)
@@ -192,31 +209,31 @@ pub record EachDetermined : Type 0 where
   pub mesh_reading_corners_at_determined : Determined mesh_reading_corners_at.ended (mesh_reading_corners_at.clauses 𝓛₀ mem₀ run₀) (λ κs a g x s. says _)
   pub mesh_reading_corners_of_determined : Determined mesh_reading_corners_of.ended (mesh_reading_corners_of.clauses 𝓛₀ mem₀ run₀) (λ κs a g x s. says _)
   pub mesh_reading_places_at_determined : Determined mesh_reading_places_at.ended (mesh_reading_places_at.clauses 𝓛₀ mem₀ run₀) (λ κs a g x s. says _)
-  pub mesh_size_rows_determined : Determined mesh_size_rows.ended (mesh_size_rows.clauses 𝓛₀ mem₀ run₀) (λ κs a g x s. says _)
-  pub mesh_shape_rows_determined : Determined mesh_shape_rows.ended (mesh_shape_rows.clauses 𝓛₀ mem₀ run₀) (λ κs a g x s. says _)
+  pub mesh_size_rows_determined : (c d e : Dict) → Determined (mesh_size_rows.ended the_row refusal.ghosts c made d alike e) (mesh_size_rows.clauses the_row refusal.ghosts c made d alike e 𝓛₀ mem₀ run₀) (λ κs a g x s. says _)
+  pub mesh_shape_rows_determined : (c d e : Dict) → Determined (mesh_shape_rows.ended the_row refusal.ghosts c made d alike e) (mesh_shape_rows.clauses the_row refusal.ghosts c made d alike e 𝓛₀ mem₀ run₀) (λ κs a g x s. says _)
   pub legs_leg_rows_determined : Determined legs_leg_rows.ended (legs_leg_rows.clauses 𝓛₀ mem₀ run₀) (λ κs a g x s. says _)
   pub areas_twice_areas_determined : Determined areas_twice_areas.ended (areas_twice_areas.clauses 𝓛₀ mem₀ run₀) (λ κs a g x s. says _)
-  pub nodes_mesh_rows_determined : Determined nodes_mesh_rows.ended (nodes_mesh_rows.clauses 𝓛₀ mem₀ run₀) (λ κs a g x s. says _)
-  pub nodes_open_rows_determined : Determined nodes_open_rows.ended (nodes_open_rows.clauses 𝓛₀ mem₀ run₀) (λ κs a g x s. says _)
-  pub bounds_run_rows_determined : Determined bounds_run_rows.ended (bounds_run_rows.clauses 𝓛₀ mem₀ run₀) (λ κs a g x s. says _)
-  pub bounds_forced_rows_determined : Determined bounds_forced_rows.ended (bounds_forced_rows.clauses 𝓛₀ mem₀ run₀) (λ κs a g x s. says _)
+  pub nodes_mesh_rows_determined : (c d e : Dict) → Determined (nodes_mesh_rows.ended the_row refusal.ghosts c made d alike e) (nodes_mesh_rows.clauses the_row refusal.ghosts c made d alike e 𝓛₀ mem₀ run₀) (λ κs a g x s. says _)
+  pub nodes_open_rows_determined : (c d e : Dict) → Determined (nodes_open_rows.ended the_row refusal.ghosts c made d alike e) (nodes_open_rows.clauses the_row refusal.ghosts c made d alike e 𝓛₀ mem₀ run₀) (λ κs a g x s. says _)
+  pub bounds_run_rows_determined : (c d e : Dict) → Determined (bounds_run_rows.ended the_row refusal.ghosts c made d alike e) (bounds_run_rows.clauses the_row refusal.ghosts c made d alike e 𝓛₀ mem₀ run₀) (λ κs a g x s. says _)
+  pub bounds_forced_rows_determined : (c d e : Dict) → Determined (bounds_forced_rows.ended the_row refusal.ghosts c made d alike e) (bounds_forced_rows.clauses the_row refusal.ghosts c made d alike e 𝓛₀ mem₀ run₀) (λ κs a g x s. says _)
   pub bounds_weather_rows_determined : Determined bounds_weather_rows.ended (bounds_weather_rows.clauses 𝓛₀ mem₀ run₀) (λ κs a g x s. says _)
-  pub bounds_list_rows_determined : Determined bounds_list_rows.ended (bounds_list_rows.clauses 𝓛₀ mem₀ run₀) (λ κs a g x s. says _)
-  pub location_survey_determined : Determined location_survey.ended (location_survey.clauses 𝓛₀ mem₀ run₀) (λ κs a g x s. says _)
+  pub bounds_list_rows_determined : (c d e : Dict) → Determined (bounds_list_rows.ended the_row refusal.ghosts c made d alike e) (bounds_list_rows.clauses the_row refusal.ghosts c made d alike e 𝓛₀ mem₀ run₀) (λ κs a g x s. says _)
+  pub location_survey_determined : (c d e : Dict) → Determined (location_survey.ended the_row refusal.ghosts c made d alike e) (location_survey.clauses the_row refusal.ghosts c made d alike e 𝓛₀ mem₀ run₀) (λ κs a g x s. says _)
   pub looking_look_determined : Determined looking_look.ended (looking_look.clauses 𝓛₀ mem₀ run₀) (λ κs a g x s. says _)
   pub looking_look_at_determined : Determined looking_look_at.ended (looking_look_at.clauses 𝓛₀ mem₀ run₀) (λ κs a g x s. says _)
   pub keeping_point_at_determined : Determined keeping_point_at.ended (keeping_point_at.clauses 𝓛₀ mem₀ run₀) (λ κs a g x s. says _)
   pub keeping_mark_at_determined : Determined keeping_mark_at.ended (keeping_mark_at.clauses 𝓛₀ mem₀ run₀) (λ κs a g x s. says _)
   pub keeping_points_determined : Determined keeping_points.ended (keeping_points.clauses 𝓛₀ mem₀ run₀) (λ κs a g x s. says _)
   pub keeping_number_rows_determined : Determined keeping_number_rows.ended (keeping_number_rows.clauses 𝓛₀ mem₀ run₀) (λ κs a g x s. says _)
-  pub keeping_add_determined : Determined keeping_add.ended (keeping_add.clauses 𝓛₀ mem₀ run₀) (λ κs a g x s. says _)
-  pub keeping_update_determined : Determined keeping_update.ended (keeping_update.clauses 𝓛₀ mem₀ run₀) (λ κs a g x s. says _)
+  pub keeping_add_determined : (c d e : Dict) → Determined (keeping_add.ended the_row refusal.ghosts c made d alike e) (keeping_add.clauses the_row refusal.ghosts c made d alike e 𝓛₀ mem₀ run₀) (λ κs a g x s. says _)
+  pub keeping_update_determined : (c d e : Dict) → Determined (keeping_update.ended the_row refusal.ghosts c made d alike e) (keeping_update.clauses the_row refusal.ghosts c made d alike e 𝓛₀ mem₀ run₀) (λ κs a g x s. says _)
   pub gauges_gauge_locate_determined : Determined gauges_gauge_locate.ended (gauges_gauge_locate.clauses 𝓛₀ mem₀ run₀) (λ κs a g x s. says _)
   pub gauges_gauge_add_determined : Determined gauges_gauge_add.ended (gauges_gauge_add.clauses 𝓛₀ mem₀ run₀) (λ κs a g x s. says _)
   pub gauges_gauge_elevation_determined : Determined gauges_gauge_elevation.ended (gauges_gauge_elevation.clauses 𝓛₀ mem₀ run₀) (λ κs a g x s. says _)
   pub gauges_gauge_update_determined : Determined gauges_gauge_update.ended (gauges_gauge_update.clauses 𝓛₀ mem₀ run₀) (λ κs a g x s. says _)
   pub gauges_gauge_peak_determined : Determined gauges_gauge_peak.ended (gauges_gauge_peak.clauses 𝓛₀ mem₀ run₀) (λ κs a g x s. says _)
-  pub passes_settle_determined : Determined passes_settle.ended (passes_settle.clauses 𝓛₀ mem₀ run₀) (λ κs a g x s. says _)
+  pub passes_settle_determined : (c d e : Dict) → Determined (passes_settle.ended the_row refusal.ghosts c made d alike e) (passes_settle.clauses the_row refusal.ghosts c made d alike e 𝓛₀ mem₀ run₀) (λ κs a g x s. says _)
   pub passes_settle_all_determined : Determined passes_settle_all.ended (passes_settle_all.clauses 𝓛₀ mem₀ run₀) (λ κs a g x s. says _)
   pub surge_open_determined : Determined surge_open.ended (surge_open.clauses 𝓛₀ mem₀ run₀) (λ κs a g x s. says _)
   pub surge_step_determined : Determined surge_step.ended (surge_step.clauses 𝓛₀ mem₀ run₀) (λ κs a g x s. says _)
@@ -252,6 +269,41 @@ pub record EachDeterminedByItsClosure : Type 2 where
   pub rows_scan_tests_determined : (F : RattleType) (b : scan_tests_calls.Ghosts F) (c m o d : Dict) (f : ℕ → Answer) →
       DeterminedWhere (rows_scan_tests.ended F b c m o d) (rows_scan_tests.clauses F b c m o d 𝓛₀ mem₀ run₀) (λ κs a g x s. says _)
       (λ κs (n, (ask, _)). (i : ℕ) (r : _) → i < n → rows_scan_tests.F-post F b c m o d ask i r → answered r ≡ f i)
+
+-- the same of a function whose refusals are of a type E: of its result, and of the lent slices that it writes, of which `left` says that they are the same. What
+-- is left of an E that it was handed the type alone says
+abbrev pub DeterminedLeft : (T : Ended) (c : Clauses w₀.𝓤 T) → Ensures T c → ((κs : Lfts T.signature.lifetimes) (a : Args T.signature κs) → Lasts T κs a → Lasts T κs a → Type 0) → Type 0
+DeterminedLeft T c r left =
+    (κs : Lfts T.signature.lifetimes) (a : Args T.signature κs) (g : (c κs a).ghost) (x y : Res T.signature κs) (v w : Lasts T κs a) →
+    told (r κs a g x (at_exit T κs a v)) → told (r κs a g y (at_exit T κs a w)) → (x ≡ y) × left κs a v w
+
+-- For every E whose values say refusals: s is what they say, f which are made of a refusal, k which are copies, and c, d and e the code of these. As of a
+-- closure, what is said of all types is above the facts that a function can promise.
+pub record EachDeterminedByItsErrors : Type 2 where
+  pub rows_first_of_any_determined : (E : RattleType) (s : Says.Ghosts E.Denot) (f : From.Ghosts E.Denot Refusal) (k : Clone.Ghosts E.Denot) (c d e : Dict) → SaysOf f.from_gives s.says →
+      DeterminedLeft (rows_first.ended E s c f d k e) (rows_first.clauses E s c f d k e 𝓛₀ mem₀ run₀) (λ κs a g x s. says _) (λ κs a v w. ⊤)
+  pub mesh_size_rows_of_any_determined : (E : RattleType) (s : Says.Ghosts E.Denot) (f : From.Ghosts E.Denot Refusal) (k : Clone.Ghosts E.Denot) (c d e : Dict) → SaysOf f.from_gives s.says →
+      DeterminedLeft (mesh_size_rows.ended E s c f d k e) (mesh_size_rows.clauses E s c f d k e 𝓛₀ mem₀ run₀) (λ κs a g x s. says _) (λ κs a v w. ⊤)
+  pub mesh_shape_rows_of_any_determined : (E : RattleType) (s : Says.Ghosts E.Denot) (f : From.Ghosts E.Denot Refusal) (k : Clone.Ghosts E.Denot) (c d e : Dict) → SaysOf f.from_gives s.says →
+      DeterminedLeft (mesh_shape_rows.ended E s c f d k e) (mesh_shape_rows.clauses E s c f d k e 𝓛₀ mem₀ run₀) (λ κs a g x s. says _) (λ κs a v w. ⊤)
+  pub nodes_mesh_rows_of_any_determined : (E : RattleType) (s : Says.Ghosts E.Denot) (f : From.Ghosts E.Denot Refusal) (k : Clone.Ghosts E.Denot) (c d e : Dict) → SaysOf f.from_gives s.says →
+      DeterminedLeft (nodes_mesh_rows.ended E s c f d k e) (nodes_mesh_rows.clauses E s c f d k e 𝓛₀ mem₀ run₀) (λ κs a g x s. says _) (λ κs a v w. ⊤)
+  pub nodes_open_rows_of_any_determined : (E : RattleType) (s : Says.Ghosts E.Denot) (f : From.Ghosts E.Denot Refusal) (k : Clone.Ghosts E.Denot) (c d e : Dict) → SaysOf f.from_gives s.says →
+      DeterminedLeft (nodes_open_rows.ended E s c f d k e) (nodes_open_rows.clauses E s c f d k e 𝓛₀ mem₀ run₀) (λ κs a g x s. says _) (λ κs a v w. ⊤)
+  pub bounds_run_rows_of_any_determined : (E : RattleType) (s : Says.Ghosts E.Denot) (f : From.Ghosts E.Denot Refusal) (k : Clone.Ghosts E.Denot) (c d e : Dict) → SaysOf f.from_gives s.says →
+      DeterminedLeft (bounds_run_rows.ended E s c f d k e) (bounds_run_rows.clauses E s c f d k e 𝓛₀ mem₀ run₀) (λ κs a g x s. says _) (λ κs a v w. ⊤)
+  pub bounds_forced_rows_of_any_determined : (E : RattleType) (s : Says.Ghosts E.Denot) (f : From.Ghosts E.Denot Refusal) (k : Clone.Ghosts E.Denot) (c d e : Dict) → SaysOf f.from_gives s.says →
+      DeterminedLeft (bounds_forced_rows.ended E s c f d k e) (bounds_forced_rows.clauses E s c f d k e 𝓛₀ mem₀ run₀) (λ κs a g x s. says _) (λ κs a v w. ⊤)
+  pub bounds_list_rows_of_any_determined : (E : RattleType) (s : Says.Ghosts E.Denot) (f : From.Ghosts E.Denot Refusal) (k : Clone.Ghosts E.Denot) (c d e : Dict) → SaysOf f.from_gives s.says →
+      DeterminedLeft (bounds_list_rows.ended E s c f d k e) (bounds_list_rows.clauses E s c f d k e 𝓛₀ mem₀ run₀) (λ κs a g x s. says _) (λ κs a v w. ⊤)
+  pub location_survey_of_any_determined : (E : RattleType) (s : Says.Ghosts E.Denot) (f : From.Ghosts E.Denot Refusal) (k : Clone.Ghosts E.Denot) (c d e : Dict) → SaysOf f.from_gives s.says →
+      DeterminedLeft (location_survey.ended E s c f d k e) (location_survey.clauses E s c f d k e 𝓛₀ mem₀ run₀) (λ κs a g x s. says _) (λ κs a v w. ⊤)
+  pub keeping_add_of_any_determined : (E : RattleType) (s : Says.Ghosts E.Denot) (f : From.Ghosts E.Denot Refusal) (k : Clone.Ghosts E.Denot) (c d e : Dict) → SaysOf f.from_gives s.says →
+      DeterminedLeft (keeping_add.ended E s c f d k e) (keeping_add.clauses E s c f d k e 𝓛₀ mem₀ run₀) (λ κs a g x s. says _) (λ κs a v w. v.0 ≡ w.0)
+  pub keeping_update_of_any_determined : (E : RattleType) (s : Says.Ghosts E.Denot) (f : From.Ghosts E.Denot Refusal) (k : Clone.Ghosts E.Denot) (c d e : Dict) → SaysOf f.from_gives s.says →
+      DeterminedLeft (keeping_update.ended E s c f d k e) (keeping_update.clauses E s c f d k e 𝓛₀ mem₀ run₀) (λ κs a g x s. says _) (λ κs a v w. v.0 ≡ w.0)
+  pub passes_settle_of_any_determined : (E : RattleType) (s : Says.Ghosts E.Denot) (f : From.Ghosts E.Denot Refusal) (k : Clone.Ghosts E.Denot) (c d e : Dict) → SaysOf f.from_gives s.says →
+      DeterminedLeft (passes_settle.ended E s c f d k e) (passes_settle.clauses E s c f d k e 𝓛₀ mem₀ run₀) (λ κs a g x s. says _) (λ κs a v w. (v.0 ≡ w.0) × (v.1.0 ≡ w.1.0) × (v.1.1.0 ≡ w.1.1.0))
 
 -- "Every call takes every mesh, state, forcing and text": what r reads, a function's `requires`, holds of all arguments
 abbrev pub AsksNothing : (T : Ended) (c : Clauses w₀.𝓤 T) → Requires T c → Type 0

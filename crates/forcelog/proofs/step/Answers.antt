@@ -3,7 +3,7 @@ use lib.Ieee.{round, of_bits}
 use Rattle.std.specs.Prelude.{Ok, Err}
 use Rattle.lists.specs.Table.{table}
 use Rattle.rows.specs.Numbers.{decimal}
-use Rattle.rows.proofs.RefusalLaws.{number_positive}
+use Rattle.rows.specs.SaysLaws.{number_positive}
 use Rattle.surge.specs.Lent.{replied}
 use Rattle.surge.specs.Step.{step_out}
 use Rattle.forcelog.specs.MeshT.{T, T_parameters}

@@ -4,7 +4,7 @@ use Rattle.std.specs.Prelude.{Err}
 use Rattle.lists.specs.Table.{table}
 use Rattle.rows.specs.Scan.{accepted}
 use Rattle.rows.specs.Refusals.{answered}
-use Rattle.rows.proofs.RefusalLaws.{number_positive}
+use Rattle.rows.specs.SaysLaws.{number_positive}
 use Rattle.forcings.specs.Forcings.{taken}
 use Rattle.forcelog.specs.Log.{reading}
 use Rattle.forcelog.proofs.LogLaws.{not_read, was_read}

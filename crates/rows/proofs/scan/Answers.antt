@@ -1,8 +1,6 @@
-use Prim.Native.Nat.{ℕ, ◌<◌}
 use mathlib.Core.Path.{◌≡◌, sym, ap, ◌∙◌}
 use native.Mathlib.Omega.{arith}
 use borrow.Author.Count.{below_more}
-use Rattle.rows.specs.declared.Answer.{Answer}
 use Rattle.rows.specs.Refusals.{answered}
 use Rattle.rows.proofs.ScanLaws.{scan_none, scan_hit}
 use Rattle.rows.proofs.RefusalLaws.{stands, refuses, accepts}

@@ -1,6 +1,6 @@
 use mathlib.Core.Path.{refl, ap, ◌∙◌}
 use native.Mathlib.Omega.{arith}
-use Rattle.rows.proofs.RefusalLaws.{number_positive}
+use Rattle.rows.specs.SaysLaws.{number_positive}
 use Rattle.surge.specs.Lent.{Reply}
 use Rattle.surge.specs.Step.{step_out}
 use Rattle.surge.proofs.ReplyLaws.{refused_reply}
